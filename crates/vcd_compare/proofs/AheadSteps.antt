@@ -1,10 +1,10 @@
 -- Items that a run takes ahead in a chunk, one after the other.
-use Rattle.vcd_compare.proofs.Cited.{◌≡◌, ℕ, false, not, List, [], ◌∷◌, ◌++◌, Result, Ok, Err, refl, sym, ap, subst, ◌∙◌, append-nil, append_assoc, is_empty, Header, BodyItem, Names, within_open, appends-none, bytes_of, longest_of, passed_of, Device, Writes, Ahead, WriteFailed, IsViewOf, HeadView, GaveAhead, LooksOver, PassesNoItem, AreRegsAfter, regs_after, Begins, Further, Past, Stage, Trail, Walks, stage_at, Regs, gave_none_ahead, walk_passes, Plan, RunsOver, model_asked, Compares, ComparesOne, HasHandled, IsCounted, SameRequest, plan_within, Comparison, Watched, Run, WalkEnd, AtItem, AtLines, Over}
+use Rattle.vcd_compare.proofs.Cited.{◌≡◌, ℕ, false, not, List, [], ◌∷◌, ◌++◌, Result, Ok, Err, refl, sym, ap, subst, ◌∙◌, append-nil, append_assoc, is_empty, Header, BodyItem, Names, within_open, appends-none, bytes_of, longest_of, passed_of, Device, Writes, Ahead, WriteFailed, IsViewOf, HeadView, GaveAhead, LooksOver, PassesNoItem, AreRegsAfter, regs_after, Begins, Further, Past, Stage, Trail, Walks, stage_at, Regs, gave_none_ahead, walk_passes, Plan, RunsOver, model_asked, Compares, ComparesOne, HasHandled, CanGoOn, SameRequest, plan_within, Comparison, Watched, Run, WalkEnd, AtItem, AtLines, Over}
 use Rattle.vcd_compare.specs.declared.asked.Asked.{Asked}
 use Rattle.vcd_compare.proofs.RunEnds.{not_ended}
 
-abbrev pub Counted : Watched → Comparison → List ℕ → Regs → Type 0
-Counted w c bytes r = IsCounted w c
+abbrev pub Ready : Watched → Comparison → List ℕ → Regs → Type 0
+Ready w c bytes r = CanGoOn c
 
 module _ (v : HeadView) (s : Stage Watched Comparison) where
   -- after the items before, some that lie ahead were taken, and nothing was due with them
@@ -78,27 +78,27 @@ module _ (v : HeadView) (s : Stage Watched Comparison) where
           };
     }
 
-    along : (z : Stage Watched Comparison) → Trail ComparesOne Counted (λ _. false) v s z → HasTaken z
+    along : (z : Stage Watched Comparison) → Trail ComparesOne Ready (λ _. false) v s z → HasTaken z
     along z Begins = taken_none
     along _ (Further b c so_far one on) = taken_on b c (along b so_far) one.did
     along _ (Past b c so_far there none is) = rw is (taken_past b there (along b so_far) none)
 
-    all_taken : (z : Stage Watched Comparison) (ended : Result WalkEnd WriteFailed) → Walks ComparesOne Counted (λ _. false) v s z ended → HasTaken z
+    all_taken : (z : Stage Watched Comparison) (ended : Result WalkEnd WriteFailed) → Walks ComparesOne Ready (λ _. false) v s z ended → HasTaken z
     all_taken z (Ok AtLines) on = absurd on
     all_taken z (Ok AtItem) on = along z on.trail
     all_taken z (Ok Over) on = let e = on.3 in absurd (cc)
     all_taken z (Err f) on = let e = on.2.did.done in absurd (cc)
 
   -- no write fails, and no walk is over
-  still : (z : Stage Watched Comparison) (ended : Result WalkEnd WriteFailed) → Walks ComparesOne Counted (λ _. false) v s z ended
-      → (z.out.failures ≡ s.out.failures) × IsCounted z.visit z.command
+  still : (z : Stage Watched Comparison) (ended : Result WalkEnd WriteFailed) → Walks ComparesOne Ready (λ _. false) v s z ended
+      → (z.out.failures ≡ s.out.failures) × CanGoOn z.command
   still z (Ok AtLines) on = absurd on
   still z (Ok AtItem) on = (on.failures, on.on)
   still z (Ok Over) on = let e = on.3 in absurd (cc)
   still z (Err f) on = let e = on.2.did.done in absurd (cc)
 
 module _ (v : HeadView) (a a' : Ahead) (r r' : Regs) (run run' : Run) (out out' : Device) (ended : Result WalkEnd WriteFailed)
-    (walks : Walks ComparesOne Counted (λ _. false) v (stage_at a r run.watched run.comparison out)
+    (walks : Walks ComparesOne Ready (λ _. false) v (stage_at a r run.watched run.comparison out)
     (stage_at a' r' run'.watched run'.comparison out') ended) where
   abbrev begin : Stage Watched Comparison
   begin = stage_at a r run.watched run.comparison out
@@ -106,8 +106,8 @@ module _ (v : HeadView) (a a' : Ahead) (r r' : Regs) (run run' : Run) (out out' 
   abbrev end : Stage Watched Comparison
   end = stage_at a' r' run'.watched run'.comparison out'
 
-  pub counted_ahead : IsCounted run'.watched run'.comparison
-  counted_ahead = (still v begin end ended walks).1
+  pub ready_ahead : CanGoOn run'.comparison
+  ready_ahead = (still v begin end ended walks).1
 
   pub runs_ahead : run'.differs ≡ run.differs → RunsOver HasHandled v a r run run' out out' (record { passed = passed_of a'; regs = r'; written = Ok tt })
   runs_ahead differs = record {
@@ -139,6 +139,6 @@ module _ (v : HeadView) (a a' : Ahead) (r r' : Regs) (run run' : Run) (out out' 
             ),
           ),
         );
-    passes = λ lines first. (walk_passes ComparesOne Counted (λ _. false) v begin (longest_of a) lines (bytes_of a) [] (refl, refl) first end ended walks).1;
+    passes = λ lines first. (walk_passes ComparesOne Ready (λ _. false) v begin (longest_of a) lines (bytes_of a) [] (refl, refl) first end ended walks).1;
     counts = (still v begin end ended walks).0;
   }

@@ -3,7 +3,7 @@ pub use Prim.Native.Nat.{zero}
 pub use Rattle.std.proofs.Common.{Bool, Err, List, None, Ok, Option, Result, Some, [], add-one, add-zero, ap, append-nil, append_assoc, ap₂, arith, bytes_eq, codes, cond, count_by, decimal, drop, false, filter, filter_map, find, flat_map, fold, get_or, if◌then◌else◌, inl, inr, length, map, max, min, nat_eq, nat_le, nat_lt, not, position, refl, replicate, rules, set, slice_get, subst, suc, sym, take, true, ℕ, ◌%◌, ◌&&◌, ◌*◌, ◌++◌, ◌+◌, ◌-◌, ◌/◌, ◌<◌, ◌==◌, ◌||◌, ◌∙◌, ◌∷◌, ◌≡◌, ◌≢◌, ◌≤◌, ◌⊎◌}
 pub use Rattle.std.proofs.Math.Bool.{and-false, or-false, or-true, or_self}
 pub use Rattle.std.proofs.lemmas.Bool.{and_cases, and_from, and_left, and_parts, and_right, cases_eq, cases_lt, eq-eqb, eqb-false, eqb-true, false_from_ne_true, le-leb, le-ltb, leb-true, lt-leb, lt-ltb, ltb-false, ltb-true, ne_eqb, or_from, or_left, or_parts, or_right}
-pub use Rattle.std.proofs.lemmas.List.{append_cancel_left, flat_map_more, get_or-replicate, get_or-set_other, get_or-set_same, length-append, length-map, length-replicate, length-set, map-append, take-append-drop, take_all, take_more}
+pub use Rattle.std.proofs.lemmas.List.{append_cancel_left, flat_map_more, get_or_past, get_or-replicate, get_or-set_other, get_or-set_same, length-append, length-map, length-replicate, length-set, map-append, take-append-drop, take_all, take_more}
 pub use Rattle.std.proofs.lemmas.List.Concat.{flat_map-append}
 pub use Rattle.std.proofs.lemmas.List.Elements.{filter-append, filter_map-append}
 pub use Rattle.std.proofs.lemmas.List.Folds.{find_at, list_any-append}
@@ -45,15 +45,15 @@ pub use Rattle.vcd_body.specs.declared.walk.WalkEnd.{WalkEnd}
 pub use Rattle.vcd_body.specs.declared.walk.WalkEnd.TheVariants.{AtItem, AtLines, Over}
 pub use Rattle.vcd_compare.specs.Asked.{model_asked, model_extent, rule_of}
 pub use Rattle.vcd_compare.specs.Classes.{AddsEnd, EntersClass, HasClasses}
-pub use Rattle.vcd_compare.specs.Comparing.{AreCodes, AreCurrent, AreFlags, AreMarked, AreSkips, AreTriggers, Compares, ComparesOne, GivesNew, HasNoEnd, IsCounted, IsEarlierEnd, IsLastTrigger, SameRequest, differ_from, is_last, partner, stops_before, triggers_with}
+pub use Rattle.vcd_compare.specs.Comparing.{AreCurrent, AreFlags, AreMarks, AreSkips, AreTouched, AreTriggers, Compares, ComparesOne, HasFlags, IsEarlierEnd, IsLastTrigger, IsOfCode, CanGoOn, SameRequest, differs_at, flag_by, is_last, is_triggered_last, some_below, some_differ, stops_before, triggers_with, values_differ}
 pub use Rattle.vcd_compare.specs.Counterparts.{AreCounterparts, ArePlaces, AreSelected, Climbs, FindPlaces, IsFound, IsBelow, IsCounterpart, IsNth, IsPlace, IsPlacing, IsReady, IsSettled, Settles, StaySettled, looked_up, place_of, place_of_node, replaced, selected_in, with_range, without_range}
-pub use Rattle.vcd_compare.specs.Flags.{AreListed, differing, marked, settled_as}
+pub use Rattle.vcd_compare.specs.Touched.{AreListed, IsListed, candidate, candidates, settled_as, taken, touched}
 pub use Rattle.vcd_compare.specs.HasPairs.{AreNumbersOf, EntersNames, EntersTexts, HasPairs, HasSelected, alone_at, compared_at, compared_of, unlike_at, unlike_of}
 pub use Rattle.vcd_compare.specs.Kinds.{model_kind}
 pub use Rattle.vcd_compare.specs.LineTexts.{ArePairLines, states_of}
 pub use Rattle.vcd_compare.specs.Lines.{DoNotFall, IsQuiet, changed_at, codes_differ, flag_of, had_line, is_always, lines_due, time_compared}
 pub use Rattle.vcd_compare.specs.Outcomes.{AnswersGiveOutcomes, BodiesGiveOutcomes, ways_within}
-pub use Rattle.vcd_compare.specs.Pairs.{AreFew, AreLinked, ArePairs, HasEnd, HoldsPairs, IsClassOf, IsLastEnd, IsPairAt, IsShownAt, IsUnlikeAt, named_by, names_in}
+pub use Rattle.vcd_compare.specs.Pairs.{AreFew, AreLinked, ArePairs, HasEnd, HoldsPairs, IsClassOf, IsLastEnd, IsPairAt, IsShownAt, IsUnlikeAt, codes_of, named_by, names_in}
 pub use Rattle.vcd_compare.specs.Paths.{AreApart, AreTexts, EntersPath, EntersText, HasTexts, IsNumberOf, has_dot, joined, node_at, texts_in}
 pub use Rattle.vcd_compare.specs.Run.{Answers, HasHandled, RunStands, Tells, TellsEnd, done_of, flag_after, is_due_now, plan_within, settled_by}
 pub use Rattle.vcd_run.specs.Listed.{chosen}

@@ -1,10 +1,111 @@
--- The flags of the classes of a code, end by end.
-use Rattle.vcd_compare.proofs.Cited.{◌≡◌, ◌≢◌, ◌⊎◌, inl, inr, ℕ, suc, ◌<◌, ◌≤◌, ◌*◌, ◌+◌, ◌-◌, ◌/◌, ◌%◌, ◌==◌, min, Bool, true, false, cond, List, [], ◌∷◌, ◌++◌, length, slice_get, get_or, Some, None, refl, sym, ap, subst, ◌∙◌, arith, unwrap_or, cases_eq, cases_lt, eqb-true, eqb-false, same_Some, slice_get-get_or, slice_get_cases, IdCode, code_of, Header, gives_to, BodyItem, time_after, Pair, is_fit, Names, HeadView, model_asked, rule_of, AreCodes, AreFlags, AreMarked, GivesNew, HasNoEnd, differ_from, partner, marked, codes_differ, flag_of, time_compared, IsClassOf, IsEarlierEnd, IsLastEnd, Current, End, Pairs}
+-- The classes of a code that are touched, end by end, and what a change makes of their flags.
+use Rattle.vcd_compare.proofs.Cited.{◌≡◌, ◌≢◌, ◌⊎◌, inl, inr, ℕ, suc, ◌<◌, ◌≤◌, ◌*◌, ◌/◌, ◌==◌, min, Bool, true, false, cond, List, [], ◌∷◌, ◌++◌, length, set, slice_get, get_or, Some, refl, sym, ap, subst, ◌∙◌, arith, unwrap_or, cases_eq, cases_lt, eqb-true, same_Some, get_or_past, get_or-set_other, get_or-set_same, length-set, slice_get-get_or, slice_get_within, IdCode, code_of, Header, gives_to, BodyItem, marks, Pair, IsViewOf, HeadView, AreLinked, AreMarks, AreTouched, IsOfCode, flag_by, touched, codes_differ, flag_of, time_compared, IsClassOf, IsEarlierEnd, End, Pairs}
 use Rattle.vcd_model.specs.Compare.{Asked as ModelAsked}
-use Rattle.vcd_compare.proofs.FlagLemmas.{compared_is, compared_other, flag_changed, flag_same, settled_other}
+use Rattle.vcd_compare.proofs.FlagLemmas.{compared_other, differ_same, flag_changed, flag_low, flag_same, settled_other, touched_flag}
 use Rattle.vcd_compare.proofs.OpenGrows.{changes_other, state_other}
 use Rattle.vcd_compare.proofs.TriggerLemmas.{gives_no_other}
-use Rattle.vcd_compare.proofs.PairLemmas.{fit_events, marked_many, marked_other, marked_there, pair_of_class}
+
+-- ---- one mark more
+
+pub touched_each : (old : List ℕ) (class k : ℕ) → (get_or (touched class old) k 0 ≡ get_or old k 0)
+    ⊎ ((k ≡ class) × (get_or old k 0 ≡ 0) × (get_or (touched class old) k 0 ≡ 1))
+touched_each old class k = by_test (get_or old class 1 == 0) refl
+  where
+    by_test : (b : Bool) → (get_or old class 1 == 0) ≡ b → (get_or (cond b (set old class 1) old) k 0 ≡ get_or old k 0)
+        ⊎ ((k ≡ class) × (get_or old k 0 ≡ 0) × (get_or (cond b (set old class 1) old) k 0 ≡ 1))
+    by_test false e = inl refl
+    by_test true e = by_place (cases_eq k class) (cases_lt class (length old))
+      where
+        zero : get_or old class 1 ≡ 0
+        zero = eqb-true (get_or old class 1) 0 e
+
+        by_place : (k ≡ class) ⊎ (k ≢ class) → (class < length old) ⊎ (length old ≤ class) → (get_or (set old class 1) k 0 ≡ get_or old k 0)
+            ⊎ ((k ≡ class) × (get_or old k 0 ≡ 0) × (get_or (set old class 1) k 0 ≡ 1))
+        by_place (inr apart) within = inl (get_or-set_other old class k 1 0 apart)
+        by_place (inl same) (inr past) = let one = get_or_past old class 1 past in absurd (omega (arith, one, zero))
+        by_place (inl same) (inl within) =
+            let both : get_or old class 1 ≡ get_or old class 0 = same_Some _ _ (sym (slice_get-get_or old class 1 within) ∙ slice_get-get_or old class 0 within) in
+            inr (same, ap (λ j. get_or old j 0) same ∙ sym both ∙ zero, ap (λ j. get_or (set old class 1) j 0) same ∙ get_or-set_same old class 1 0 within)
+
+pub touched_many : (old : List ℕ) (class : ℕ) → length (touched class old) ≡ length old
+touched_many old class = by_test (get_or old class 1 == 0)
+  where
+    by_test : (b : Bool) → length (cond b (set old class 1) old) ≡ length old
+    by_test true = length-set old class 1
+    by_test false = refl
+
+touched_there : (old : List ℕ) (class : ℕ) → class < length old → get_or (touched class old) class 0 ≢ 0
+touched_there old class within = by_test (get_or old class 1 == 0) refl
+  where
+    by_test : (b : Bool) → (get_or old class 1 == 0) ≡ b → get_or (cond b (set old class 1) old) class 0 ≢ 0
+    by_test true e none = let one = get_or-set_same old class 1 0 within in absurd (omega (arith, one, none))
+    by_test false e none =
+        let both : get_or old class 1 ≡ get_or old class 0 = same_Some _ _ (sym (slice_get-get_or old class 1 within) ∙ slice_get-get_or old class 0 within) in
+        let yes : (get_or old class 1 == 0) ≡ true = ap (λ m. m == 0) (both ∙ none) in cc
+
+pub touched_done : (old : List ℕ) (class k : ℕ) → get_or old k 0 ≡ 2 → get_or (touched class old) k 0 ≡ 2
+touched_done old class k two = elim (touched_each old class k) [
+  | inl same ↦ same ∙ two
+  | inr new ↦ let zero = new.1 in absurd (omega (arith, zero, two))
+]
+
+-- ---- the classes of a code, end by end
+
+module _ (ends : List End) (code : ℕ) where
+  pub touched_first : (last old : List ℕ) (low : ℕ) → AreLinked ends last → code < length last → low ≡ unwrap_or (slice_get last code) 0 → AreTouched ends code low old old
+  touched_first last old low linked within is =
+      let there : slice_get last code ≡ Some (get_or last code 0) = slice_get-get_or last code 0 within in
+      let from = linked.from code low (there ∙ ap Some (sym (is ∙ ap (λ o. unwrap_or o 0) there))) in
+      record {
+        many = refl;
+        within = from.within;
+        next = λ i e at here. let its = from.is i at in let same : its.0 ≡ e = same_Some its.0 e (sym its.1 ∙ here) in ap (λ (f : End). f.code) (sym same) ∙ its.2;
+        each = λ k. inl refl;
+        its = λ i e le here is low. absurd (from.none i e le (slice_get_within ends i e here) here is);
+      }
+
+  module _ (old new : List ℕ) (i : ℕ) (e : End) (there : slice_get ends i ≡ Some e) (is : e.code ≡ code) (so_far : AreTouched ends code (suc i) old new) where
+    abbrev after : List ℕ
+    after = touched (i / 2) new
+
+    pub touched_on : (low : ℕ) → IsEarlierEnd ends after i e.code low → AreTouched ends code (min low i) old after
+    touched_on low next = record {
+      many = touched_many new (i / 2) ∙ so_far.many;
+      within = (let below = so_far.within in omega arith);
+      next = λ j f at here.
+          let within = next.within in
+          let its = next.is j (omega arith) in
+          let same : its.0 ≡ f = same_Some its.0 f (sym its.1 ∙ here) in
+          ap (λ (g : End). g.code) (sym same) ∙ its.2 ∙ is;
+      each = λ k. by_each k (touched_each new (i / 2) k) (so_far.each k);
+      its = λ j f le here same below. by_order j f le here same below (cases_lt j i) (cases_eq j i);
+    }
+      where
+        by_each : (k : ℕ) → (get_or after k 0 ≡ get_or new k 0) ⊎ ((k ≡ i / 2) × (get_or new k 0 ≡ 0) × (get_or after k 0 ≡ 1))
+            → (get_or new k 0 ≡ get_or old k 0) ⊎ ((get_or old k 0 ≡ 0) × (get_or new k 0 ≡ 1) × IsOfCode ends code k)
+            → (get_or after k 0 ≡ get_or old k 0) ⊎ ((get_or old k 0 ≡ 0) × (get_or after k 0 ≡ 1) × IsOfCode ends code k)
+        by_each k (inl stays) (inl same) = inl (stays ∙ same)
+        by_each k (inl stays) (inr was) = inr (was.0, stays ∙ was.1, was.2)
+        by_each k (inr now) (inl same) = inr (sym same ∙ now.1, now.2, (i, e, there, is, sym now.0))
+        by_each k (inr now) (inr was) = let none = now.1 in let one = was.1 in absurd (omega (arith, none, one))
+
+        by_order : (j : ℕ) (f : End) → min low i ≤ j → slice_get ends j ≡ Some f → f.code ≡ code → j / 2 < length old
+            → (j < i) ⊎ (i ≤ j) → (j ≡ i) ⊎ (j ≢ i) → get_or after (j / 2) 0 ≢ 0
+        by_order j f le here same below (inl less) at none =
+            let within = next.within in
+            let done = next.none j f (omega arith) less here (same ∙ sym is) in
+            absurd (omega (arith, done, none))
+        by_order j f le here same below (inr more) (inl at) none =
+            let many = so_far.many in
+            touched_there new (i / 2) (subst (λ k. k / 2 < length new) at (omega (arith, below, many))) (ap (λ k. get_or after (k / 2) 0) (sym at) ∙ none)
+        by_order j f le here same below (inr more) (inr apart) none =
+            so_far.its j f (omega arith) here same below (by_each_none (touched_each new (i / 2) (j / 2)))
+          where
+            by_each_none : (get_or after (j / 2) 0 ≡ get_or new (j / 2) 0) ⊎ ((j / 2 ≡ i / 2) × (get_or new (j / 2) 0 ≡ 0) × (get_or after (j / 2) 0 ≡ 1)) → get_or new (j / 2) 0 ≡ 0
+            by_each_none (inl stays) = sym stays ∙ none
+            by_each_none (inr now) = now.1
+
+-- ---- the flags after a change
 
 -- the code of the first end of a class is that of the first variable
 first_code : (h : Header) (ps : Pairs) (class : ℕ) (p : Pair) (e : End) → IsClassOf h ps.ends.items class p
@@ -19,248 +120,87 @@ other_code h ps class p e is there =
     let same : is.other.0 ≡ e = same_Some is.other.0 e (sym is.other.1 ∙ there) in
     subst (λ (f : End). slice_get h.codes f.code ≡ Some (code_of p.other)) same is.other.2
 
--- which end of its class it is
-abbrev IsEnd : ℕ → ℕ → Type 0
-IsEnd i class = ((i ≡ 2 * class) × (partner i ≡ suc (2 * class)) × ((i % 2 == 0) ≡ true)) ⊎ ((i ≡ suc (2 * class)) × (partner i ≡ 2 * class) × ((i % 2 == 0) ≡ false))
-
-end_is : (i : ℕ) → IsEnd i (i / 2)
-end_is i = by_test (i % 2 == 0) refl
-  where
-    by_test : (b : Bool) → (i % 2 == 0) ≡ b → ((i ≡ 2 * (i / 2)) × (cond b (i + 1) (i - 1) ≡ suc (2 * (i / 2))) × (b ≡ true))
-        ⊎ ((i ≡ suc (2 * (i / 2))) × (cond b (i + 1) (i - 1) ≡ 2 * (i / 2)) × (b ≡ false))
-    by_test true e = let zero = eqb-true (i % 2) 0 e in inl (omega arith, omega arith, refl)
-    by_test false e = let some = eqb-false (i % 2) 0 e in inr (omega arith, omega arith, refl)
-
--- the flag that a class gets
-new_flag : (old now : ℕ) (d : Bool) → now ≡ cond (old == 2) 2 (cond d 1 0) → (f : ℕ) → (f ≡ now) ⊎ (f ≡ old) → cond (f == 2) 2 (cond d 1 0) ≡ now
-new_flag old now d e f (inr was) = rw was (sym e)
-new_flag old now d e f (inl is) = rw is (by_tests (old == 2) d e)
-  where
-    by_tests : (b d : Bool) → now ≡ cond b 2 (cond d 1 0) → cond (now == 2) 2 (cond d 1 0) ≡ now
-    by_tests true true e = rw e refl
-    by_tests true false e = rw e refl
-    by_tests false true e = rw e refl
-    by_tests false false e = rw e refl
-
-module _ (v : HeadView) (c : Current) (n at : ℕ) (old skips : List ℕ) (h : Header) (exceptions : List (List ℕ)) (ns : List Names) (items : List BodyItem)
-    (x : BodyItem) (a : IdCode) (g : GivesNew v c n at old skips h exceptions ns items x a) where
-  abbrev q : ModelAsked
-  q = model_asked c.asked exceptions
-
-  abbrev ps : Pairs
-  ps = c.pairs.now
-
+module _ (v : HeadView) (h : Header) (views : IsViewOf v h) (ps : Pairs) (q : ModelAsked) (items : List BodyItem) (x : BodyItem) (n : ℕ) (a : IdCode)
+    (there : slice_get h.codes n ≡ Some a) (gives : gives_to a x ≡ true) (other : marks (x ∷ []) ≡ []) where
   abbrev ends : List End
   ends = ps.ends.items
 
-  -- ---- where it begins
+  abbrev next : List BodyItem
+  next = items ++ x ∷ []
 
-  in_codes : n < length h.codes
-  in_codes = by_case (slice_get_cases h.codes n).1
+  -- the change gives something to a code of each class of the code
+  gives_class : (class : ℕ) (p : Pair) → IsClassOf h ends class p → IsOfCode ends n class → (gives_to (code_of p.one) x ≡ true) ⊎ (gives_to (code_of p.other) x ≡ true)
+  gives_class class p is (i, e, at, code, half) = by_end (cases_eq i (2 * class))
     where
-      by_case : ((y : IdCode) × (n < length h.codes) × (slice_get h.codes n ≡ Some y) × (get_or h.codes n y ≡ y))
-          ⊎ ((length h.codes ≤ n) × (slice_get h.codes n ≡ None)) → n < length h.codes
-      by_case (inl within) = within.1
-      by_case (inr past) = let no = sym past.1 ∙ g.there in cc
+      by_end : (i ≡ 2 * class) ⊎ (i ≢ 2 * class) → (gives_to (code_of p.one) x ≡ true) ⊎ (gives_to (code_of p.other) x ≡ true)
+      by_end (inl first) =
+          let its = first_code h ps class p e is (subst (λ j. slice_get ends j ≡ Some e) first at) in
+          let same : a ≡ code_of p.one = same_Some a (code_of p.one) (sym there ∙ ap (slice_get h.codes) (sym code) ∙ its) in
+          inl (subst (λ (c : IdCode). gives_to c x ≡ true) same gives)
+      by_end (inr second) =
+          let its = other_code h ps class p e is (subst (λ j. slice_get ends j ≡ Some e) (omega (arith, half, second)) at) in
+          let same : a ≡ code_of p.other = same_Some a (code_of p.other) (sym there ∙ ap (slice_get h.codes) (sym code) ∙ its) in
+          inr (subst (λ (c : IdCode). gives_to c x ≡ true) same gives)
 
-  end_below : (i : ℕ) (e : End) → slice_get ends i ≡ Some e → i < length ends
-  end_below i e there = by_case (slice_get_cases ends i).1
-    where
-      by_case : ((y : End) × (i < length ends) × (slice_get ends i ≡ Some y) × (get_or ends i y ≡ y)) ⊎ ((length ends ≤ i) × (slice_get ends i ≡ None)) → i < length ends
-      by_case (inl within) = within.1
-      by_case (inr past) = let no = sym past.1 ∙ there in cc
+  -- and what it gives something to is the code
+  given_code : (index : ℕ) (c : IdCode) → slice_get h.codes index ≡ Some c → gives_to c x ≡ true → index ≡ n
+  given_code index c at its = elim (cases_eq index n) [
+    | inl same ↦ same
+    | inr apart ↦ let none = gives_no_other v h views n a x there gives index c at apart in absurd (cc)
+  ]
 
-  -- the other end of its class is there
-  pub partner_there : (i : ℕ) (e : End) → slice_get ends i ≡ Some e → slice_get ends (partner i) ≡ None → ⊥
-  partner_there i e there none = by_case (slice_get_cases ends (partner i)).1
-    where
-      by_end : IsEnd i (i / 2) → partner i < length ends
-      by_end (inl (is, its, even)) = let low = end_below i e there in let all = g.pairs.classes in omega (arith, is, its, low, all)
-      by_end (inr (is, its, odd)) = let low = end_below i e there in omega (arith, is, its, low)
+  module _ (old new : List ℕ) (all : AreTouched ends n 0 old new) (class : ℕ) (p : Pair) (below : class < length old) (is : IsClassOf h ends class p) where
+    abbrev differs : List BodyItem → Bool
+    differs its = codes_differ q.rule its (code_of p.one) (code_of p.other) (time_compared q its)
 
-      by_case : ((y : End) × (partner i < length ends) × (slice_get ends (partner i) ≡ Some y) × (get_or ends (partner i) y ≡ y))
-          ⊎ ((length ends ≤ partner i) × (slice_get ends (partner i) ≡ None)) → ⊥
-      by_case (inl within) = let no = sym none ∙ within.2 in cc
-      by_case (inr past) = let low = by_end (end_is i) in absurd (omega (arith, past.0, low))
+    abbrev flag : List BodyItem → ℕ
+    flag its = flag_of q its (code_of p.one) (code_of p.other)
 
-  -- the time that is compared is not before the last timestamp
-  pub not_before : time_after (items ++ x ∷ []) ≤ at
-  not_before = let is = compared_is q (items ++ x ∷ []) in let same = compared_other q items x g.other in omega (arith, is, same, g.at_is)
+    some_mark : (gives_to (code_of p.one) x ≡ true) ⊎ (gives_to (code_of p.other) x ≡ true) → get_or new class 0 ≢ 0
+    some_mark (inl one) =
+        let half : (2 * class) / 2 ≡ class = omega arith in
+        subst (λ k. get_or new k 0 ≢ 0) half
+        (all.its (2 * class) is.one.0 (omega arith) is.one.1 (given_code is.one.0.code (code_of p.one) is.one.2 one) (omega (arith, below, half)))
+    some_mark (inr two) =
+        let half : suc (2 * class) / 2 ≡ class = omega arith in
+        subst (λ k. get_or new k 0 ≢ 0) half
+        (all.its (suc (2 * class)) is.other.0 (omega arith) is.other.1 (given_code is.other.0.code (code_of p.other) is.other.2 two) (omega (arith, below, half)))
 
-  pub marked_first : (low : ℕ) → low ≡ unwrap_or (slice_get ps.last.items n) 0 → AreMarked ps h q items (items ++ x ∷ []) n low old
-  marked_first low is = record {
-    many = g.flags.many;
-    within = linked.within;
-    next = λ i e at there. let its = linked.is i at in let same : its.0 ≡ e = same_Some its.0 e (sym its.1 ∙ there) in ap (λ (f : End). f.code) (sym same) ∙ its.2;
-    each = λ class p below its. inr (g.flags.each class p below its, λ i e le half there. linked.none i e le (end_below i e there) there);
-  }
-    where
-      linked : IsLastEnd ends (length ends) n low
-      linked =
-          let all = g.pairs.codes in let less = in_codes in
-          let last : slice_get ps.last.items n ≡ Some (get_or ps.last.items n 0) = slice_get-get_or ps.last.items n 0 (omega arith) in
-          g.pairs.linked.from n low (last ∙ ap Some (sym (is ∙ ap (λ o. unwrap_or o 0) last)))
+    flag_given : flag items ≡ flag_by (get_or old class 0) (differs items) → (gives_to (code_of p.one) x ≡ true) ⊎ (gives_to (code_of p.other) x ≡ true)
+        → flag next ≡ flag_by (get_or new class 0) (differs next)
+    flag_given was either =
+        touched_flag (get_or old class 0) (get_or new class 0) (differs items) (differs next) (flag items) (flag next)
+        (elim (all.each class) [ inl same ↦ inl (same, some_mark either) | inr now ↦ inr (now.0, now.1) ])
+        was (flag_low q items (code_of p.one) (code_of p.other))
+        (flag_changed q items x other (code_of p.one) (code_of p.other) either
+        ∙ ap (λ t. cond (flag items == 2) 2 (cond (codes_differ q.rule next (code_of p.one) (code_of p.other) t) 1 0)) (sym (compared_other q items x other)))
 
-  -- ---- where it ends
+    flag_not_given : flag items ≡ flag_by (get_or old class 0) (differs items) → gives_to (code_of p.one) x ≡ false → gives_to (code_of p.other) x ≡ false
+        → flag next ≡ flag_by (get_or new class 0) (differs next)
+    flag_not_given was one two =
+        let one_state = state_other items x (code_of p.one) one in
+        let two_state = state_other items x (code_of p.other) two in
+        let mark : get_or new class 0 ≡ get_or old class 0 = elim (all.each class) [
+          | inl same ↦ same
+          | inr now ↦ let given = gives_class class p is now.2 in absurd (elim given [ inl e ↦ let no = sym e ∙ one in cc | inr e ↦ let no = sym e ∙ two in cc ])
+        ] in
+        flag_same q items next (code_of p.one) (code_of p.other) one_state two_state (compared_other q items x other) (settled_other q items x other)
+        (changes_other items x (code_of p.one) one) (changes_other items x (code_of p.other) two)
+        ∙ was
+        ∙ ap (flag_by (get_or old class 0)) (sym (differ_same q items next (code_of p.one) (code_of p.other) one_state two_state (time_compared q next)
+        ∙ ap (codes_differ q.rule items (code_of p.one) (code_of p.other)) (compared_other q items x other)))
+        ∙ ap (λ m. flag_by m (differs next)) (sym mark)
 
-  -- of another code the item says nothing
-  gives_none : (other : ℕ) (d : IdCode) → slice_get h.codes other ≡ Some d → other ≢ n → gives_to d x ≡ false
-  gives_none = gives_no_other v h g.views n a x g.there g.gives
-
-  flag_stays : (one other : IdCode) → gives_to one x ≡ false → gives_to other x ≡ false → flag_of q (items ++ x ∷ []) one other ≡ flag_of q items one other
-  flag_stays one other e f =
-      flag_same q items (items ++ x ∷ []) one other (state_other items x one e) (state_other items x other f) (compared_other q items x g.other)
-      (settled_other q items x g.other) (changes_other items x one e) (changes_other items x other f)
-
-  -- a pair that had its only line before the item has had it after it
-  done_stays : (one other : IdCode) → flag_of q items one other ≡ 2 → flag_of q (items ++ x ∷ []) one other ≡ 2
-  done_stays one other two = by_tests (gives_to one x) (gives_to other x) refl refl
-    where
-      gives : (gives_to one x ≡ true) ⊎ (gives_to other x ≡ true) → flag_of q (items ++ x ∷ []) one other ≡ 2
-      gives either = flag_changed q items x g.other one other either
-          ∙ ap (λ f. cond (f == 2) 2 (cond (codes_differ (rule_of c.asked) (items ++ x ∷ []) one other (time_compared q items)) 1 0)) two
-
-      by_tests : (b d : Bool) → gives_to one x ≡ b → gives_to other x ≡ d → flag_of q (items ++ x ∷ []) one other ≡ 2
-      by_tests true d e f = gives (inl e)
-      by_tests false true e f = gives (inr f)
-      by_tests false false e f = flag_stays one other e f ∙ two
-
-  pub marked_last : (flags : List ℕ) → AreMarked ps h q items (items ++ x ∷ []) n 0 flags → AreFlags ps h q (items ++ x ∷ []) flags
-  marked_last flags m = record { many = m.many; each = λ class p below is. by_case class p is (m.each class p below is) }
-    where
-      by_case : (class : ℕ) (p : Pair) → IsClassOf h ends class p
-          → (get_or flags class 0 ≡ flag_of q (items ++ x ∷ []) (code_of p.one) (code_of p.other))
-          ⊎ ((get_or flags class 0 ≡ flag_of q items (code_of p.one) (code_of p.other)) × HasNoEnd ends n class 0)
-          → get_or flags class 0 ≡ flag_of q (items ++ x ∷ []) (code_of p.one) (code_of p.other)
-      by_case class p is (inl done) = done
-      by_case class p is (inr stays) =
-          let first = gives_none is.one.0.code (code_of p.one) is.one.2 (stays.1 (2 * class) is.one.0 (omega arith) (omega arith) is.one.1) in
-          let second = gives_none is.other.0.code (code_of p.other) is.other.2 (stays.1 (suc (2 * class)) is.other.0 (omega arith) (omega arith) is.other.1) in
-          stays.0 ∙ sym (flag_stays (code_of p.one) (code_of p.other) first second)
-
-  -- ---- one end more
-
-  module _ (i : ℕ) (e f : End) (there : slice_get ends i ≡ Some e) (its : slice_get ends (partner i) ≡ Some f) (code : e.code ≡ n) where
-    abbrev class : ℕ
-    class = i / 2
-
-    in_ends : i < length ends
-    in_ends = by_case (slice_get_cases ends i).1
+    pub flag_next : flag items ≡ flag_by (get_or old class 0) (differs items) → flag next ≡ flag_by (get_or new class 0) (differs next)
+    flag_next was = by_tests (gives_to (code_of p.one) x) (gives_to (code_of p.other) x) refl refl
       where
-        by_case : ((y : End) × (i < length ends) × (slice_get ends i ≡ Some y) × (get_or ends i y ≡ y)) ⊎ ((length ends ≤ i) × (slice_get ends i ≡ None)) → i < length ends
-        by_case (inl within) = within.1
-        by_case (inr past) = let no = sym past.1 ∙ there in cc
+        by_tests : (b d : Bool) → gives_to (code_of p.one) x ≡ b → gives_to (code_of p.other) x ≡ d → flag next ≡ flag_by (get_or new class 0) (differs next)
+        by_tests true d one two = flag_given was (inl one)
+        by_tests false true one two = flag_given was (inr two)
+        by_tests false false one two = flag_not_given was one two
 
-    below : class < ps.classes
-    below = let all = g.pairs.classes in let low = in_ends in omega arith
-
-    pair : (p : Pair) × (is_fit p ≡ true) × IsClassOf h ends class p
-    pair = pair_of_class ps h q ns class g.pairs below
-
-    -- what the codes of two ends say of a change, the codes of their pair say too
-    abbrev TellsOf : IdCode → Type 0
-    TellsOf b = (p : Pair) → IsClassOf h ends class p
-        → (differ_from (i % 2 == 0) (rule_of c.asked) (items ++ x ∷ []) a b at ≡ codes_differ (rule_of c.asked) (items ++ x ∷ []) (code_of p.one)
-        (code_of p.other) at) × ((gives_to (code_of p.one) x ≡ true) ⊎ (gives_to (code_of p.other) x ≡ true))
-
-    -- the code of the other end
-    other_there : IsEnd i class → (b : IdCode) × AreCodes h n f.code a b × TellsOf b
-    other_there (inl (at_is, its_at, even)) =
-        let first : (p : Pair) → IsClassOf h ends class p → a ≡ code_of p.one = λ p is. same_Some a (code_of p.one) (sym g.there
-        ∙ ap (slice_get h.codes) (sym code) ∙ first_code h ps class p e is (rw at_is at there)) in
-        let second : (p : Pair) → IsClassOf h ends class p → slice_get h.codes f.code ≡ Some (code_of p.other) = λ p is. other_code h ps class p f is (rw its_at at its) in (
-          code_of pair.0.other,
-          record { one_is = g.there; other_is = second pair.0 pair.2; same = ap (λ (y : IdCode). y.event) (first pair.0 pair.2) ∙ fit_events pair.0 pair.1 },
-          λ p is.
-              let same : code_of pair.0.other ≡ code_of p.other = same_Some (code_of pair.0.other) (code_of p.other) (sym (second pair.0 pair.2) ∙ second p is) in (
-                ap (λ t. differ_from t (rule_of c.asked) (items ++ x ∷ []) a (code_of pair.0.other) at) even
-                    ∙ ap (λ (y : IdCode). codes_differ (rule_of c.asked) (items ++ x ∷ []) y (code_of pair.0.other) at) (first p is)
-                    ∙ ap (λ (y : IdCode). codes_differ (rule_of c.asked) (items ++ x ∷ []) (code_of p.one) y at) same,
-                inl (subst (λ (y : IdCode). gives_to y x ≡ true) (first p is) g.gives),
-              ),
-        )
-    other_there (inr (at_is, its_at, odd)) =
-        let second : (p : Pair) → IsClassOf h ends class p → a ≡ code_of p.other = λ p is. same_Some a (code_of p.other) (sym g.there
-        ∙ ap (slice_get h.codes) (sym code) ∙ other_code h ps class p e is (rw at_is at there)) in
-        let first : (p : Pair) → IsClassOf h ends class p → slice_get h.codes f.code ≡ Some (code_of p.one) = λ p is. first_code h ps class p f is (rw its_at at its) in (
-          code_of pair.0.one,
-          record { one_is = g.there; other_is = first pair.0 pair.2; same = ap (λ (y : IdCode). y.event) (second pair.0 pair.2) ∙ sym (fit_events pair.0 pair.1) },
-          λ p is.
-              let same : code_of pair.0.one ≡ code_of p.one = same_Some (code_of pair.0.one) (code_of p.one) (sym (first pair.0 pair.2) ∙ first p is) in (
-                ap (λ t. differ_from t (rule_of c.asked) (items ++ x ∷ []) a (code_of pair.0.one) at) odd
-                    ∙ ap (λ (y : IdCode). codes_differ (rule_of c.asked) (items ++ x ∷ []) (code_of pair.0.one) y at) (second p is)
-                    ∙ ap (λ (y : IdCode). codes_differ (rule_of c.asked) (items ++ x ∷ []) y (code_of p.other) at) same,
-                inr (subst (λ (y : IdCode). gives_to y x ≡ true) (second p is) g.gives),
-              ),
-        )
-
-    pub its_code : (b : IdCode) × AreCodes h n f.code a b × TellsOf b
-    its_code = other_there (end_is i)
-
-    module _ (flags : List ℕ) (m : AreMarked ps h q items (items ++ x ∷ []) n (suc i) flags) (d : Bool)
-        (d_is : d ≡ differ_from (i % 2 == 0) (rule_of c.asked) (items ++ x ∷ []) a its_code.0 at) where
-      new_there : (p : Pair) → IsClassOf h ends class p → get_or (marked flags class d) class 0 ≡ flag_of q (items ++ x ∷ []) (code_of p.one) (code_of p.other)
-      new_there p is =
-          let tells = its_code.2 p is in
-          let changed = flag_changed q items x g.other (code_of p.one) (code_of p.other) tells.1 in
-          let told : d ≡ codes_differ (rule_of c.asked) (items ++ x ∷ []) (code_of p.one) (code_of p.other) (time_compared q items) = d_is ∙ tells.0
-          ∙ ap (codes_differ (rule_of c.asked) (items ++ x ∷ []) (code_of p.one) (code_of p.other)) g.at_is in
-          marked_there flags class d (let many = m.many in let low = below in omega arith)
-          ∙ new_flag (flag_of q items (code_of p.one) (code_of p.other)) (flag_of q (items ++ x ∷ []) (code_of p.one) (code_of p.other)) d (changed
-          ∙ ap (λ b. cond (flag_of q items (code_of p.one) (code_of p.other) == 2) 2 (cond b 1 0)) (sym told)) (get_or flags class 0)
-          (was (m.each class p below is))
-        where
-          was : (get_or flags class 0 ≡ flag_of q (items ++ x ∷ []) (code_of p.one) (code_of p.other))
-              ⊎ ((get_or flags class 0 ≡ flag_of q items (code_of p.one) (code_of p.other)) × HasNoEnd ends n class (suc i))
-              → (get_or flags class 0 ≡ flag_of q (items ++ x ∷ []) (code_of p.one) (code_of p.other)) ⊎ (get_or flags class 0 ≡ flag_of q items (code_of p.one) (code_of p.other))
-          was (inl done) = inl done
-          was (inr stays) = inr stays.0
-
-      -- the next end that was found, with the flags that are set now
-      module _ (low : ℕ) (next : IsEarlierEnd ends (marked flags class d) i e.code low) where
-        -- an end of another class comes in between only if that had its only line
-        none_between : (k : ℕ) → k ≢ class → get_or flags k 0 ≢ 2 → HasNoEnd ends n k (suc i) → HasNoEnd ends n k (min low i)
-        none_between k apart lacks none j y le half at_j = by_order (cases_lt j i)
-          where
-            by_order : (j < i) ⊎ (i ≤ j) → y.code ≢ n
-            by_order (inl less) = λ is.
-                lacks (sym (marked_other flags class k d apart) ∙ ap (λ (m : ℕ). get_or (marked flags class d) m 0) (sym half)
-                ∙ next.none j y (let within = next.within in omega arith) less at_j (is ∙ sym code))
-            by_order (inr high) = again (cases_lt i j)
-              where
-                again : (i < j) ⊎ (j ≤ i) → y.code ≢ n
-                again (inl more) = none j y (omega arith) half at_j
-                again (inr back) = let same : j ≡ i = omega arith in absurd (apart (sym half ∙ ap (λ (m : ℕ). m / 2) same))
-
-        pub marked_on : AreMarked ps h q items (items ++ x ∷ []) n (min low i) (marked flags class d)
-        marked_on = record {
-          many = marked_many flags class d ∙ m.many;
-          within = (let ends_in = in_ends in
-              omega arith);
-          next = λ j y at at_j. let within = next.within in let its = next.is j (omega arith) in
-              let same : its.0 ≡ y = same_Some its.0 y (sym its.1 ∙ at_j) in
-              ap (λ (z : End). z.code) (sym same) ∙ its.2 ∙ code;
-          each = λ k p below is. by_class k p below is (k == class) refl;
-        }
-          where
-            by_class : (k : ℕ) (p : Pair) → k < ps.classes → IsClassOf h ends k p → (b : Bool) → (k == class) ≡ b
-                → (get_or (marked flags class d) k 0 ≡ flag_of q (items ++ x ∷ []) (code_of p.one) (code_of p.other))
-                ⊎ ((get_or (marked flags class d) k 0 ≡ flag_of q items (code_of p.one) (code_of p.other)) × HasNoEnd ends n k (min low i))
-            by_class k p below is true same = inl (rw (eqb-true k class same) (new_there p (subst (λ (j : ℕ). IsClassOf h ends j p) (eqb-true k class same) is)))
-            by_class k p below is false other = by_case (m.each k p below is)
-              where
-                apart : k ≢ class
-                apart = eqb-false k class other
-
-                by_case : (get_or flags k 0 ≡ flag_of q (items ++ x ∷ []) (code_of p.one) (code_of p.other))
-                    ⊎ ((get_or flags k 0 ≡ flag_of q items (code_of p.one) (code_of p.other)) × HasNoEnd ends n k (suc i))
-                    → (get_or (marked flags class d) k 0 ≡ flag_of q (items ++ x ∷ []) (code_of p.one) (code_of p.other))
-                    ⊎ ((get_or (marked flags class d) k 0 ≡ flag_of q items (code_of p.one) (code_of p.other)) × HasNoEnd ends n k (min low i))
-                by_case (inl done) = inl (marked_other flags class k d apart ∙ done)
-                by_case (inr stays) = by_flag (cases_eq (get_or flags k 0) 2)
-                  where
-                    by_flag : (get_or flags k 0 ≡ 2) ⊎ (get_or flags k 0 ≢ 2)
-                        → (get_or (marked flags class d) k 0 ≡ flag_of q (items ++ x ∷ []) (code_of p.one) (code_of p.other))
-                        ⊎ ((get_or (marked flags class d) k 0 ≡ flag_of q items (code_of p.one) (code_of p.other)) × HasNoEnd ends n k (min low i))
-                    by_flag (inl two) = inl (marked_other flags class k d apart ∙ two ∙ sym (done_stays (code_of p.one) (code_of p.other) (sym stays.0 ∙ two)))
-                    by_flag (inr other) = inr (marked_other flags class k d apart ∙ stays.0, none_between k apart other stays.1)
+  pub marks_changed : (old new : List ℕ) → AreTouched ends n 0 old new → AreMarks ps h q items old → AreMarks ps h q next new
+  marks_changed old new all are = record {
+    many = all.many ∙ are.many;
+    each = λ class p below is. flag_next old new all class p (let many = are.many in omega (arith, below, many)) is (are.each class p below is);
+  }

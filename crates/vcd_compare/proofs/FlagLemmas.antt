@@ -1,5 +1,5 @@
 -- The flag of two codes with one item more.
-use Rattle.vcd_compare.proofs.Cited.{◌≡◌, ◌⊎◌, inl, inr, ℕ, ◌<◌, ◌≤◌, ◌*◌, ◌==◌, max, Bool, true, false, not, cond, ◌&&◌, ◌||◌, nat_lt, nat_le, List, [], ◌∷◌, ◌++◌, fold, filter, None, refl, sym, ap, ◌∙◌, append-nil, arith, AllByRecursion, list_any, eqb-false, lt-ltb, le-leb, eq-eqb, ne_eqb, filter-append, list_any-append, or-false, or-true, and-false, IdCode, final_value, gives_to, BodyItem, Entry, entries, entry_after, marks, time_after, is_settled, Asked, Extent, changes_at, in_order, is_triggered, state_at, side, times_in, times_within, value_by, entries-append, below_greatest, fold-append, marks-append, DoNotFall, changed_at, codes_differ, had_line, is_always, time_compared}
+use Rattle.vcd_compare.proofs.Cited.{◌≡◌, ◌≢◌, ◌⊎◌, inl, inr, ℕ, ◌<◌, ◌≤◌, ◌*◌, ◌==◌, max, Bool, true, false, not, cond, ◌&&◌, ◌||◌, nat_lt, nat_le, List, [], ◌∷◌, ◌++◌, fold, filter, None, refl, sym, ap, ◌∙◌, append-nil, arith, AllByRecursion, list_any, cases_eq, eqb-false, lt-ltb, le-leb, eq-eqb, ne_eqb, filter-append, list_any-append, or-false, or-true, and-false, IdCode, final_value, gives_to, BodyItem, Entry, entries, entry_after, marks, time_after, is_settled, Asked, Extent, changes_at, in_order, is_triggered, state_at, side, times_in, times_within, value_by, entries-append, below_greatest, fold-append, marks-append, DoNotFall, changed_at, codes_differ, flag_by, had_line, is_always, time_compared}
 use Rattle.vcd_compare.specs.Lines.{flag_of}
 use Rattle.vcd_compare.proofs.OpenGrows.{changes_other, state_other, triggered_other}
 use Rattle.vcd_compare.proofs.PastTimes.{past, past_more, settled_times}
@@ -40,7 +40,7 @@ changes_after c items t l =
 
 module _ (q : Asked) (items items' : List BodyItem) (a b : IdCode) (state_a : (t : ℕ) → state_at 1 items' a t ≡ state_at 1 items a t)
     (state_b : (t : ℕ) → state_at 1 items' b t ≡ state_at 1 items b t) where
-  differ_same : (t : ℕ) → codes_differ q.rule items' a b t ≡ codes_differ q.rule items a b t
+  pub differ_same : (t : ℕ) → codes_differ q.rule items' a b t ≡ codes_differ q.rule items a b t
   differ_same t = rw (state_a t, state_b t) refl
 
   any_differ : (ts : List ℕ) → list_any (codes_differ q.rule items' a b) ts ≡ list_any (codes_differ q.rule items a b) ts
@@ -61,6 +61,67 @@ module _ (q : Asked) (items items' : List BodyItem) (a b : IdCode) (state_a : (t
         ap (λ t. cond (is_always q.extent) (cond (codes_differ q.rule items' a b t && (t == q.from || changed_at items' a b t)) 1 0)
         (cond (had_line q items' a b) 2 (cond (codes_differ q.rule items' a b t) 1 0))) same_time
         ∙ rw (had_same, differ_same (time_compared q items), changed_same (time_compared q items)) refl
+
+-- ---- flags by marks
+
+-- what becomes of a flag once the lines of a time were written
+abbrev pub settled_flag : Extent → ℕ → ℕ
+settled_flag e f = cond (f == 1) (cond (is_always e) 0 2) f
+
+low_parts : (always now had differs : Bool) → cond {A = ℕ} always (cond now 1 0) (cond had 2 (cond differs 1 0)) ≤ 2
+low_parts true true had differs = omega arith
+low_parts true false had differs = omega arith
+low_parts false now true differs = omega arith
+low_parts false now false true = omega arith
+low_parts false now false false = omega arith
+
+pub flag_low : (q : Asked) (items : List BodyItem) (a b : IdCode) → flag_of q items a b ≤ 2
+unfolding flag_of
+flag_low q items a b = low_parts _ _ _ _
+
+-- the flag by a mark, once the class is touched by a change
+pub touched_flag : (mark now : ℕ) (was differs : Bool) (flag next : ℕ) → ((now ≡ mark) × (now ≢ 0)) ⊎ ((mark ≡ 0) × (now ≡ 1))
+    → flag ≡ flag_by mark was → flag ≤ 2 → next ≡ cond (flag == 2) 2 (cond differs 1 0) → next ≡ flag_by now differs
+touched_flag mark now was differs flag next known is low next_is = by_two (cases_eq flag 2)
+  where
+    not_two : (b : Bool) → cond {A = ℕ} b 1 0 ≢ 2
+    not_two true e = cc
+    not_two false e = cc
+
+    other : mark ≢ 1 → flag ≡ mark
+    other d = is ∙ ap (λ b. cond b (cond was 1 0) mark) (ne_eqb mark 1 d)
+
+    mark_two : flag ≡ 2 → (mark ≡ 1) ⊎ (mark ≢ 1) → mark ≡ 2
+    mark_two two (inl one) = absurd (not_two was (sym (is ∙ ap (λ m. flag_by m was) one) ∙ two))
+    mark_two two (inr d) = sym (other d) ∙ two
+
+    now_two : mark ≡ 2 → ((now ≡ mark) × (now ≢ 0)) ⊎ ((mark ≡ 0) × (now ≡ 1)) → now ≡ 2
+    now_two two (inl same) = same.0 ∙ two
+    now_two two (inr new) = let zero = new.0 in absurd (omega (arith, two, zero))
+
+    now_one : flag ≢ 2 → (mark ≡ 1) ⊎ (mark ≢ 1) → ((now ≡ mark) × (now ≢ 0)) ⊎ ((mark ≡ 0) × (now ≡ 1)) → now ≡ 1
+    now_one apart any (inr new) = new.1
+    now_one apart (inl one) (inl same) = same.0 ∙ one
+    now_one apart (inr d) (inl same) = let e = other d in let f = same.0 in let g = same.1 in absurd (omega (arith, e, f, g, low, apart, d))
+
+    by_two : (flag ≡ 2) ⊎ (flag ≢ 2) → next ≡ flag_by now differs
+    by_two (inl two) =
+        let done = now_two (mark_two two (cases_eq mark 1)) known in
+        next_is ∙ ap (λ f. cond (f == 2) 2 (cond {A = ℕ} differs 1 0)) two ∙ ap (λ m. flag_by m differs) (sym done)
+    by_two (inr d) =
+        next_is ∙ ap (λ b. cond b 2 (cond {A = ℕ} differs 1 0)) (ne_eqb flag 2 d) ∙ ap (λ m. flag_by m differs) (sym (now_one d (cases_eq mark 1) known))
+
+-- a mark that is not 1 is the flag, whatever differs
+pub settled_mark : (e : Extent) (flag : ℕ) (differs : Bool) → settled_flag e flag ≡ flag_by (settled_flag e flag) differs
+settled_mark e flag differs = by_test (flag == 1) refl
+  where
+    by_extent : (always : Bool) → cond {A = ℕ} always 0 2 ≡ flag_by (cond always 0 2) differs
+    by_extent true = refl
+    by_extent false = refl
+
+    by_test : (b : Bool) → (flag == 1) ≡ b → cond b (cond (is_always e) 0 2) flag ≡ flag_by (cond b (cond (is_always e) 0 2) flag) differs
+    by_test true one = by_extent (is_always e)
+    by_test false other = sym (ap (λ b. cond b (cond {A = ℕ} differs 1 0) flag) other)
 
 -- ---- a change of one of the two
 
@@ -148,10 +209,6 @@ module _ (q : Asked) (items : List BodyItem) (x : BodyItem) (other : marks (x �
         (time_compared q items == q.from || changed_at items a b (time_compared q items)))
 
 -- ---- a timestamp above the time that is compared
-
--- what becomes of a flag once the lines of a time were written
-abbrev pub settled_flag : Extent → ℕ → ℕ
-settled_flag e f = cond (f == 1) (cond (is_always e) 0 2) f
 
 parts_after : (always had now late early : Bool) → (late ≡ true → now ≡ true)
     → ◌≡◌ {A = ℕ} (cond always (cond (late && false) 1 0) (cond (had || now) 2 (cond late 1 0)))

@@ -33,5 +33,6 @@ pub mod AheadSteps
 pub mod RunSteps
 pub mod StartLemmas
 pub mod RowLemmas
+pub mod TouchedLemmas
 pub mod Cited
 pub mod Facts

@@ -1,7 +1,9 @@
 -- The lines of a comparison, text by text.
-use Rattle.vcd_compare.proofs.Cited.{zero, ◌≡◌, ℕ, suc, ◌+◌, ◌/◌, ◌<◌, ◌==◌, Bool, true, false, cond, ◌&&◌, List, [], ◌∷◌, ◌++◌, length, take, drop, slice_get, get_or, flat_map, decimal, codes, Option, Some, refl, sym, ap, subst, ◌∙◌, append-nil, append_assoc, arith, IsErr, Result, option_map, unwrap_or, vec_len, AllZip, Appends, ne_eqb, take-append-drop, flat_map-append, is_empty, words, BodyItem, IdCode, code_of, Header, shown, Asked, Named, Pair, alone_lines, is_triggered, kind_of, kind_shown, state_at, unlike_lines, value_line, Names, alone_in, side, turned, unlike_in, Gains, AppendsSome, appends-first, appends-none, appends-some, appends-twice, takes-failed, takes-twice, states_of, ArePairs, IsPairAt, IsUnlikeAt, End, PairRow, Pairs, Variable, not, full_name, named_by, no_blanks, range_of, tail_of}
+use Rattle.vcd_compare.proofs.Cited.{zero, ◌≡◌, ℕ, suc, ◌+◌, ◌/◌, ◌<◌, ◌==◌, Bool, true, false, cond, ◌&&◌, List, [], ◌∷◌, ◌++◌, length, take, drop, slice_get, get_or, flat_map, decimal, codes, Option, Some, refl, sym, ap, subst, ◌∙◌, append-nil, append_assoc, arith, IsErr, Result, option_map, unwrap_or, vec_len, AllZip, Appends, ne_eqb, take-append-drop, flat_map-append, is_empty, words, BodyItem, IdCode, code_of, Header, shown, Asked, Named, Pair, alone_lines, is_triggered, kind_of, kind_shown, state_at, unlike_lines, value_line, Names, alone_in, side, turned, unlike_in, Gains, AppendsSome, appends-first, appends-none, appends-some, appends-twice, takes-failed, takes-twice, states_of, ArePairs, IsUnlikeAt, End, Pairs, Variable, not, full_name, named_by, no_blanks, range_of, tail_of, ◌*◌, IsSomeAnd, IsClassOf, codes_of}
 use Rattle.vcd_model.specs.Within.{within_head}
 use Rattle.vcd_compare.specs.Pairs.{IsNamedAt}
+use Rattle.vcd_compare.specs.LineTexts.{HasCodes}
+use Rattle.vcd_compare.specs.Pairs.{both_codes}
 
 -- ---- texts, one after the other, or a line for each of several
 
@@ -92,22 +94,6 @@ pair_line items p t path e =
     let one : t / 1 ≡ t = omega arith in
     rw (e, one) (pair_words (decimal t) p.path (shown (state_at 1 items (code_of p.one) t)) (shown (state_at 1 items (code_of p.other) t)))
 
--- the row is that of the pair, and the flag of its class is that of the pair
-abbrev pub HasFlag : Header → List End → List ℕ → (Pair → ℕ) → PairRow → Pair → Type 0
-HasFlag h ends flags flag row p = IsPairAt h ends row p × (get_or flags row.class 0 ≡ flag p)
-
--- the line of a pair whose flag is 1
-abbrev pub due_of : List BodyItem → ℕ → (Pair → ℕ) → Pair → List ℕ
-due_of items t flag p = cond (flag p == 1) (value_line (side items) (side items) p t) []
-
--- that of a pair whose flag is 1, and of any other
-module _ (flag : Pair → ℕ) (line : Pair → List ℕ) (p : Pair) where
-  pub line_due : flag p ≡ 1 → line p ≡ flat_map (λ x. cond (flag x == 1) (line x) []) (p ∷ [])
-  line_due e = rw e (sym (append-nil (line p)))
-
-  pub line_none : (flag p == 1) ≡ false → [] ≡ flat_map (λ x. cond (flag x == 1) (line x) []) (p ∷ [])
-  line_none e = rw e refl
-
 -- ---- the name of a variable
 
 -- the bytes of a text that are no blanks, one after the other
@@ -195,3 +181,9 @@ head_empty q h ns ps are =
       unlike,
     )
     refl
+
+-- the two codes of a class are those of its pair
+pub pair_codes : (h : Header) (ends : List End) (class : ℕ) (p : Pair) → IsClassOf h ends class p → (o : Option (ℕ × ℕ)) → o ≡ codes_of ends class → IsSomeAnd o (λ codes. HasCodes h codes p)
+pair_codes h ends class p is o e =
+    let codes : codes_of ends class ≡ Some (is.one.0.code, is.other.0.code) = ap (λ one. both_codes one (slice_get ends (suc (2 * class)))) is.one.1 ∙ ap (both_codes (Some is.one.0)) is.other.1 in
+    subst (λ (x : Option (ℕ × ℕ)). IsSomeAnd x (λ codes. HasCodes h codes p)) (sym (e ∙ codes)) (is.one.2, is.other.2)

@@ -1,6 +1,5 @@
 -- The pair of a class, and what its codes have in common.
-use Rattle.vcd_compare.proofs.Cited.{◌≡◌, ◌≢◌, ℕ, ◌<◌, ◌==◌, Bool, true, false, cond, ◌||◌, List, length, filter_map, flat_map, codes, slice_get, get_or, Option, Some, None, refl, sym, ap, subst, ◌∙◌, MatchOption, bytes_eq, nat_eq, starts_with, slice_set, IsSomeAnd, eqb-true, get_or-set_other, get_or-set_same, same_Some, bytes_eq-Decides, AllZip-left, IdCode, Variable, code_of, Header, Asked, Kind, Pair, is_fit, kind_of, same_kind, Event, Real, Digits, Names, compared_in, pair_at, places_of, marked, ArePairs, IsClassOf, IsPairAt, End, PairRow, Pairs}
-use Rattle.std.proofs.Math.ListN.{length-set}
+use Rattle.vcd_compare.proofs.Cited.{◌≡◌, ℕ, ◌<◌, Bool, true, false, cond, ◌||◌, List, filter_map, flat_map, codes, slice_get, Option, Some, None, refl, sym, ap, subst, ◌∙◌, MatchOption, bytes_eq, nat_eq, starts_with, IsSomeAnd, same_Some, bytes_eq-Decides, AllZip-left, IdCode, Variable, code_of, Header, Asked, Kind, Pair, is_fit, kind_of, same_kind, Event, Real, Digits, Names, compared_in, pair_at, places_of, ArePairs, IsClassOf, IsPairAt, End, PairRow, Pairs}
 use Rattle.vcd_compare.proofs.PlaceLemmas.{kept}
 
 -- ---- two of a kind
@@ -74,26 +73,3 @@ class_events ps h q ns class p are below is =
     let first : code_of o.one ≡ code_of p.one = same_Some (code_of o.one) (code_of p.one) (sym its.one.2 ∙ ap (λ (e : End). slice_get h.codes e.code) one ∙ is.one.2) in
     let second : code_of o.other ≡ code_of p.other = same_Some (code_of o.other) (code_of p.other) (sym its.other.2 ∙ ap (λ (e : End). slice_get h.codes e.code) other ∙ is.other.2) in
     ap (λ (c : IdCode). c.event) (sym first) ∙ fit_events o fit ∙ ap (λ (c : IdCode). c.event) second
-
--- ---- flags
-
-pub marked_there : (flags : List ℕ) (class : ℕ) (differs : Bool) → class < length flags → get_or (marked flags class differs) class 0 ≡ cond (get_or flags class 0 == 2) 2 (cond differs 1 0)
-marked_there flags class differs below = by_test (get_or flags class 0 == 2) refl
-  where
-    by_test : (b : Bool) → (get_or flags class 0 == 2) ≡ b → ◌≡◌ {A = ℕ} (get_or (cond b flags (slice_set flags class (cond differs 1 0))) class 0) (cond b 2 (cond differs 1 0))
-    by_test true e = eqb-true (get_or flags class 0) 2 e
-    by_test false e = get_or-set_same flags class (cond differs 1 0) 0 below
-
-pub marked_other : (flags : List ℕ) (class other : ℕ) (differs : Bool) → other ≢ class → get_or (marked flags class differs) other 0 ≡ get_or flags other 0
-marked_other flags class other differs apart = by_test (get_or flags class 0 == 2)
-  where
-    by_test : (b : Bool) → get_or (cond b flags (slice_set flags class (cond differs 1 0))) other 0 ≡ get_or flags other 0
-    by_test true = refl
-    by_test false = get_or-set_other flags class other (cond differs 1 0) 0 apart
-
-pub marked_many : (flags : List ℕ) (class : ℕ) (differs : Bool) → length (marked flags class differs) ≡ length flags
-marked_many flags class differs = by_test (get_or flags class 0 == 2)
-  where
-    by_test : (b : Bool) → length (cond b flags (slice_set flags class (cond differs 1 0))) ≡ length flags
-    by_test true = refl
-    by_test false = length-set flags class (cond differs 1 0)

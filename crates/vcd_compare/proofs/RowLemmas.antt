@@ -4,9 +4,8 @@ use Prim.Native.Nat.{zero}
 use Rattle.std.proofs.lemmas.Bool.{eq-eqb, ne_eqb, cases_lt, cases_eq, le-leb, leb-true}
 use Rattle.std.proofs.Math.Bool.{and-false, or-false, or-true}
 use Rattle.std.proofs.lemmas.Option.{get_or_from_slice_get, same_Some, slice_get-get_or, slice_get_within}
-use Rattle.std.proofs.lemmas.List.{take_more_set, take_all, length-take-le, length-set, length_push, get_or-set_same, get_or-set_other, get_or_past, length-map, get_or-map, get_or-take}
-use Rattle.vcd_compare.specs.Flags.{AreListed, settled_as, taken}
-use Rattle.std.specs.List.{list_any}
+use Rattle.std.proofs.lemmas.List.{take_more_set, take_all, length-take-le, length-set, length_push, get_or-set_same, get_or-set_other, get_or_past, length-map, get_or-map}
+use Rattle.vcd_compare.specs.Touched.{settled_as, taken}
 use Rattle.vcd_compare.specs.Rows.{AreDue, AreLinkedRows, IsLastRow, classes_of, is_flagged, is_of, was_flagged}
 use Rattle.vcd_run.proofs.Once.{fits, times_push}
 use Rattle.vcd_run.specs.Listed.{chosen, times}
@@ -17,6 +16,7 @@ use Rattle.vcd_compare.specs.declared.current.Current.{Current}
 use Rattle.vcd_compare.specs.declared.pairs.PairRow.{PairRow}
 use Rattle.vcd_compare.proofs.VariableLemmas.{take_next}
 use Rattle.vcd_compare.proofs.PlaceLemmas.{zip_at}
+use Rattle.vcd_compare.proofs.TouchedLemmas.{one_within}
 
 pub le-not : (a b : ℕ) → b < a → nat_le a b ≡ false
 le-not a b lt = by_value (nat_le a b) refl
@@ -176,18 +176,10 @@ its_flag bytes classes class i at =
     let within = slice_get_within classes i class at in
     ap (λ n. n == 1) (get_or-map (λ class. get_or bytes class 0) classes i 0 0 within ∙ ap (λ k. get_or bytes k 0) (get_or_from_slice_get classes i class 0 at))
 
--- a class with a flag is there
-pub low_one : (bytes : List ℕ) (class : ℕ) → get_or bytes class 0 ≡ 1 → class < length bytes
-low_one bytes class one = by_bound (cases_lt class (length bytes))
-  where
-    by_bound : (class < length bytes) ⊎ (length bytes ≤ class) → class < length bytes
-    by_bound (inl lt) = lt
-    by_bound (inr le) = let none = get_or_past bytes class 0 le in absurd (omega (arith, none, one))
-
 module _ (bytes classes : List ℕ) (class after : ℕ) (other : after ≢ 1) where
   taken_here : get_or bytes class 0 ≡ 1 → get_or (taken class after bytes) class 0 ≡ after
   taken_here one =
-      ap (λ b. get_or (cond b (set bytes class after) bytes) class 0) (eq-eqb (get_or bytes class 0) 1 one) ∙ get_or-set_same bytes class after 0 (low_one bytes class one)
+      ap (λ b. get_or (cond b (set bytes class after) bytes) class 0) (eq-eqb (get_or bytes class 0) 1 one) ∙ get_or-set_same bytes class after 0 (one_within bytes class one)
 
   taken_there : (k : ℕ) → k ≢ class → get_or (taken class after bytes) k 0 ≡ get_or bytes k 0
   taken_there k d = by_test (get_or bytes class 0 == 1)
@@ -199,32 +191,8 @@ module _ (bytes classes : List ℕ) (class after : ℕ) (other : after ≢ 1) wh
   taken_not : get_or bytes class 0 ≢ 1 → taken class after bytes ≡ bytes
   taken_not d = ap (λ b. cond b (set bytes class after) bytes) (ne_eqb (get_or bytes class 0) 1 d)
 
-  pub taken_long : length (taken class after bytes) ≡ length bytes
-  taken_long = by_test (get_or bytes class 0 == 1)
-    where
-      by_test : (b : Bool) → length (cond b (set bytes class after) bytes) ≡ length bytes
-      by_test true = length-set bytes class after
-      by_test false = refl
-
   -- what becomes of the flags, and of the rows whose flag was 1
   module _ (old : List ℕ) (each : (k : ℕ) → (get_or bytes k 0 ≡ get_or old k 0) ⊎ ((get_or old k 0 ≡ 1) × (get_or bytes k 0 ≡ after))) where
-    pub each_next : (k : ℕ) → (get_or (taken class after bytes) k 0 ≡ get_or old k 0) ⊎ ((get_or old k 0 ≡ 1) × (get_or (taken class after bytes) k 0 ≡ after))
-    each_next k = by_one (cases_eq (get_or bytes class 0) 1)
-      where
-        by_old : get_or bytes class 0 ≡ 1 → (get_or bytes class 0 ≡ get_or old class 0) ⊎ ((get_or old class 0 ≡ 1) × (get_or bytes class 0 ≡ after)) → get_or old class 0 ≡ 1
-        by_old one (inl e) = sym e ∙ one
-        by_old one (inr p) = p.0
-
-        by_class : get_or bytes class 0 ≡ 1 → (k ≡ class) ⊎ (k ≢ class) → (get_or (taken class after bytes) k 0 ≡ get_or old k 0)
-            ⊎ ((get_or old k 0 ≡ 1) × (get_or (taken class after bytes) k 0 ≡ after))
-        by_class one (inl e) = inr (ap (λ j. get_or old j 0) e ∙ by_old one (each class), ap (λ j. get_or (taken class after bytes) j 0) e ∙ taken_here one)
-        by_class one (inr d) = subst (λ n. (n ≡ get_or old k 0) ⊎ ((get_or old k 0 ≡ 1) × (n ≡ after))) (sym (taken_there k d)) (each k)
-
-        by_one : (get_or bytes class 0 ≡ 1) ⊎ (get_or bytes class 0 ≢ 1) → (get_or (taken class after bytes) k 0 ≡ get_or old k 0)
-            ⊎ ((get_or old k 0 ≡ 1) × (get_or (taken class after bytes) k 0 ≡ after))
-        by_one (inl one) = by_class one (cases_eq k class)
-        by_one (inr d) = subst (λ l. (get_or l k 0 ≡ get_or old k 0) ⊎ ((get_or old k 0 ≡ 1) × (get_or l k 0 ≡ after))) (sym (taken_not d)) (each k)
-
     pub was_next : (i : ℕ) → (was_flagged old bytes classes i || (get_or bytes class 0 == 1 && is_of classes class i)) ≡ was_flagged old (taken class after bytes) classes i
     was_next i = by_bound (cases_lt i (length classes))
       where
@@ -278,17 +246,6 @@ module _ (bytes classes : List ℕ) (class after : ℕ) (other : after ≢ 1) wh
     pub not_twice : get_or bytes class 0 ≡ 1 → (i : ℕ) → slice_get classes i ≡ Some class → was_flagged old bytes classes i ≡ false
     not_twice one i at = ap (λ b. is_flagged old classes i && not b) (its_flag bytes classes class i at ∙ eq-eqb (get_or bytes class 0) 1 one) ∙ and-false (is_flagged old classes i)
 
-  pub not_one_next : (k : ℕ) → (get_or bytes k 0 ≢ 1) ⊎ (k ≡ class) → get_or (taken class after bytes) k 0 ≢ 1
-  not_one_next k known = by_one known (cases_eq (get_or bytes class 0) 1) (cases_eq k class)
-    where
-      by_one : (get_or bytes k 0 ≢ 1) ⊎ (k ≡ class) → (get_or bytes class 0 ≡ 1) ⊎ (get_or bytes class 0 ≢ 1) → (k ≡ class) ⊎ (k ≢ class)
-          → get_or (taken class after bytes) k 0 ≢ 1
-      by_one known (inl one) (inl e) = λ q. other (sym (ap (λ j. get_or (taken class after bytes) j 0) e ∙ taken_here one) ∙ q)
-      by_one (inl d) (inl one) (inr n) = λ q. d (sym (taken_there k n) ∙ q)
-      by_one (inr e) (inl one) (inr n) = absurd (n e)
-      by_one (inl d) (inr m) same = λ q. d (ap (λ l. get_or l k 0) (sym (taken_not m)) ∙ q)
-      by_one (inr e) (inr m) same = λ q. m (ap (λ j. get_or bytes j 0) (sym e) ∙ ap (λ l. get_or l k 0) (sym (taken_not m)) ∙ q)
-
 pub none_due : (old classes due : List ℕ) → AreDue due 0 (was_flagged old old classes)
 none_due old classes due = record { within = omega arith; once = λ i. sym (ap (λ b. cond {A = ℕ} b 1 0) (never (is_flagged old classes i))) }
   where
@@ -296,52 +253,9 @@ none_due old classes due = record { within = omega arith; once = λ i. sym (ap (
     never true = refl
     never false = refl
 
--- the candidate at an index, if those that are listed are all
-abbrev pub candidate : Bool → List ℕ → ℕ → ℕ
-candidate fits classes i = cond fits (get_or classes i 0) i
-
--- a class whose flag is 1 is a candidate
-pub found : (bytes classes : List ℕ) (listed k : ℕ) (fits : Bool) → nat_le listed (length classes) ≡ fits → AreListed bytes classes listed
-    → get_or bytes k 0 ≡ 1 → (i : ℕ) × (i < cond fits listed (length bytes)) × (candidate fits classes i ≡ k)
-found bytes classes listed k false e are one = (k, low_one bytes k one, refl)
-found bytes classes listed k true e are one =
-    let le = leb-true listed (length classes) e in
-    let at = index_of (take listed classes) (are le k one) in
-    let len = length-take-le listed classes le in
-    let low : at.0 < listed = (let w = at.1 in omega (arith, w, len)) in
-    (at.0, low, sym (get_or-take listed classes at.0 0 low) ∙ at.2)
-  where
-    index_of : (xs : List ℕ) → list_any (λ c. c == k) xs ≡ true → (i : ℕ) × (i < length xs) × (get_or xs i 0 ≡ k)
-    index_of [] e = cc
-    index_of (x ∷ xs) e = by_head (index_of xs) (cases_eq x k)
-      where
-        by_head : (list_any (λ c. c == k) xs ≡ true → (i : ℕ) × (i < length xs) × (get_or xs i 0 ≡ k)) → (x ≡ k) ⊎ (x ≢ k) → (i : ℕ)
-            × (i < length (x ∷ xs)) × (get_or (x ∷ xs) i 0 ≡ k)
-        by_head rest (inl same) = (0, omega arith, same)
-        by_head rest (inr d) = let at = rest (sym (ap (λ b. b || list_any (λ c. c == k) xs) (ne_eqb x k d)) ∙ e) in let w = at.1 in (suc at.0, omega (arith, w), at.2)
-
 and-true : (b : Bool) → (b && true) ≡ b
 and-true true = refl
 and-true false = refl
-
--- all are settled once every candidate is
-module _ (old bytes classes : List ℕ) (listed after : ℕ) (fits : Bool) (fit : nat_le listed (length classes) ≡ fits)
-    (are : AreListed old classes listed) (other : after ≢ 1) (each : (k : ℕ) → (get_or bytes k 0 ≡ get_or old k 0)
-    ⊎ ((get_or old k 0 ≡ 1) × (get_or bytes k 0 ≡ after)))
-    (done : (i : ℕ) → i < cond fits listed (length old) → get_or bytes (candidate fits classes i) 0 ≢ 1) where
-  none_left : (k : ℕ) → get_or bytes k 0 ≢ 1
-  none_left k one = by_old (each k)
-    where
-      by_old : (get_or bytes k 0 ≡ get_or old k 0) ⊎ ((get_or old k 0 ≡ 1) × (get_or bytes k 0 ≡ after)) → ⊥
-      by_old (inl e) = let at = found old classes listed k fits fit are (sym e ∙ one) in done at.0 at.1 (ap (λ j. get_or bytes j 0) at.2 ∙ one)
-      by_old (inr p) = other (sym p.1 ∙ one)
-
-  pub all_settled : (k : ℕ) → get_or bytes k 0 ≡ settled_as after (get_or old k 0)
-  all_settled k = by_old (each k)
-    where
-      by_old : (get_or bytes k 0 ≡ get_or old k 0) ⊎ ((get_or old k 0 ≡ 1) × (get_or bytes k 0 ≡ after)) → get_or bytes k 0 ≡ settled_as after (get_or old k 0)
-      by_old (inl e) = e ∙ sym (ap (λ b. cond b after (get_or old k 0)) (ne_eqb (get_or old k 0) 1 (λ one. none_left k (e ∙ one))))
-      by_old (inr p) = p.1 ∙ sym (ap (λ b. cond b after (get_or old k 0)) (eq-eqb (get_or old k 0) 1 p.0))
 
 -- then the rows whose flag was 1 and is not are all whose flag was 1
 pub settled_due : (old bytes : List ℕ) (after : ℕ) → after ≢ 1 → ((k : ℕ) → get_or bytes k 0 ≡ settled_as after (get_or old k 0))

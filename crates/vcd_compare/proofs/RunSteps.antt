@@ -1,5 +1,5 @@
 -- What a run does as a task: with a timestamp, with any other item, and at the end of a body.
-use Rattle.vcd_compare.proofs.Cited.{◌≡◌, ◌⊎◌, inl, inr, ℕ, ◌≤◌, max, Bool, false, not, List, [], ◌∷◌, ◌++◌, Result, Ok, Err, refl, sym, ap, subst, ◌∙◌, append-nil, arith, is_empty, body_items, read_body, Header, Input, gives_to, IdCode, BodyItem, marks, time_after, Token, ends_run, within_close, within_open, appends-none, Device, Takes, HasGiven, limit_of, Ghosts, WriteFailed, Feed, IfOk, IsItem, Item, AreRegsAfter, regs_after, Regs, BodyBegins, Plan, TakesOne, model_asked, Compares, HasHandled, IsCounted, RunStands, TellsEnd, Tells, plan_within, settled_by, Run}
+use Rattle.vcd_compare.proofs.Cited.{◌≡◌, ◌⊎◌, inl, inr, ℕ, ◌≤◌, max, Bool, false, not, List, [], ◌∷◌, ◌++◌, Result, Ok, Err, refl, sym, ap, subst, ◌∙◌, append-nil, arith, is_empty, body_items, read_body, Header, Input, gives_to, IdCode, BodyItem, marks, time_after, Token, ends_run, within_close, within_open, appends-none, Device, Takes, HasGiven, limit_of, Ghosts, WriteFailed, Feed, IfOk, IsItem, Item, AreRegsAfter, regs_after, Regs, BodyBegins, Plan, TakesOne, model_asked, Compares, HasHandled, RunStands, TellsEnd, Tells, plan_within, settled_by, Run}
 use Rattle.vcd_body.specs.declared.item.Item.TheVariants as item
 use Rattle.vcd_body.specs.declared.item.Section.{Section}
 use Rattle.vcd_compare.specs.declared.asked.Asked.{Asked}
@@ -85,13 +85,13 @@ module _ (run run' : Run) (p : Plan) (h : Header) (items : List BodyItem) (has :
         }
 
   -- the end of the body
-  module _ (counted : IsCounted run.watched run.comparison) (r : Regs) (known : AreRegsAfter items r) (last : run'.last ≡ r.time) (out out' : Device) where
+  module _ (r : Regs) (known : AreRegsAfter items r) (last : run'.last ≡ r.time) (out out' : Device) where
     pub closes : (result : Result (Unit {0}) WriteFailed) → Takes out out' (lines_due own h has.ns items) result
         → IfOk result (λ _. run'.differs ≡ not (is_empty (within_open own h has.ns items ++ within_close own h has.ns items)))
         → Takes out out' (p.closes items) result × IfOk result (λ _. Tells run'.differs run'.last items (p.opens items ++ p.closes items))
     closes result puts differs =
         subst (λ (q : Plan). Takes out out' (q.closes items) result × IfOk result (λ _. Tells run'.differs run'.last items (q.opens items ++ q.closes items))) (sym has.by_plan)
-        (rw (left_due h has.exceptions has.ns items run has.stands counted) puts, by_result result differs)
+        (rw (left_due h has.exceptions has.ns items run has.stands) puts, by_result result differs)
       where
         by_result : (a : Result (Unit {0}) WriteFailed) → IfOk a (λ _. run'.differs ≡ not
             (is_empty (within_open own h has.ns items ++ within_close own h has.ns items)))

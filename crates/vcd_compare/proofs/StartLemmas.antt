@@ -1,9 +1,8 @@
 -- How a run stands before the first item.
-use Rattle.vcd_compare.proofs.Cited.{zero, ◌≡◌, ℕ, suc, ◌<◌, ◌==◌, Bool, true, false, cond, List, [], ◌∷◌, length, filter, slice_get, Option, Some, None, refl, sym, ap, ◌∙◌, append-nil, arith, replicate, list_any, get_or-replicate, length-replicate, slice_get-get_or, IdCode, code_of, Header, Value, is_settled, state_at, Names, times_in, within_head, IsViewOf, HeadView, codes_len, AreHeld, model_asked, AreFlags, AreTriggers, Compares, differing, codes_differ, had_line, is_always, time_compared, ArePairs, Comparison, Watched, Pairs}
+use Rattle.vcd_compare.proofs.Cited.{zero, ◌≡◌, ℕ, suc, ◌<◌, Bool, true, false, cond, List, [], ◌∷◌, length, filter, slice_get, Option, Some, None, refl, sym, ap, ◌∙◌, append-nil, arith, replicate, list_any, get_or-replicate, length-replicate, slice_get-get_or, IdCode, code_of, Header, Value, is_settled, state_at, Names, times_in, within_head, IsViewOf, HeadView, codes_len, AreHeld, model_asked, AreMarks, AreTriggers, Compares, flag_by, codes_differ, had_line, is_always, time_compared, ArePairs, Comparison, Watched, Pairs}
 use Rattle.vcd_model.specs.Compare.{Asked as ModelAsked}
 use Rattle.vcd_model.specs.Within.{within_open}
 use Rattle.vcd_compare.specs.Lines.{flag_of}
-use Rattle.vcd_compare.proofs.DueSome.{none_one}
 use Rattle.vcd_compare.proofs.SkipLemmas.{skips_first}
 
 -- ---- nothing is settled, and nothing differs
@@ -38,11 +37,13 @@ no_flag q a b =
 same_there : {A : Type 0} (n k : ℕ) (x : A) → k < n → slice_get (replicate n x) k ≡ Some x
 same_there n k x low = let many : length (replicate n x) ≡ n = length-replicate n x in slice_get-get_or (replicate n x) k x (omega arith) ∙ ap (λ y. Some y) (get_or-replicate n k x x low)
 
-pub counted_first : (n : ℕ) → 0 ≡ differing (replicate n 0)
-counted_first n = sym (none_one (replicate n 0) (λ k low. let many : length (replicate {A = ℕ} n 0) ≡ n = length-replicate n 0 in ap (λ f. f == 1) (get_or-replicate n k 0 0 (omega arith))))
-
-flags_first : (ps : Pairs) (h : Header) (q : ModelAsked) → AreFlags ps h q [] (replicate ps.classes 0)
-flags_first ps h q = record { many = length-replicate ps.classes 0; each = λ class p below is. get_or-replicate ps.classes class 0 0 below ∙ sym (no_flag q (code_of p.one) (code_of p.other)) }
+marks_first : (ps : Pairs) (h : Header) (q : ModelAsked) → AreMarks ps h q [] (replicate ps.classes 0)
+marks_first ps h q = record {
+  many = length-replicate ps.classes 0;
+  each = λ class p below is.
+      no_flag q (code_of p.one) (code_of p.other)
+      ∙ sym (ap (λ m. flag_by m (codes_differ q.rule [] (code_of p.one) (code_of p.other) (time_compared q []))) (get_or-replicate {A = ℕ} ps.classes class 0 0 below));
+}
 
 there_below : (cs : List IdCode) (index : ℕ) (c : IdCode) → slice_get cs index ≡ Some c → index < length cs
 there_below [] index c at = cc
@@ -59,13 +60,13 @@ triggers_first v h views index c at event =
 
 pub compares_first : (v : HeadView) (h : Header) (exceptions : List (List ℕ)) (ns : List Names) (c : Comparison) (w : Watched) → IsViewOf v h
     → ArePairs c.current.pairs.now h (model_asked c.current.asked exceptions) ns → AreHeld c.current.table h []
-    → c.current.triggers.now ≡ replicate (length v.codes.now) None → c.flags.bytes.now ≡ replicate c.current.pairs.now.classes 0
+    → c.current.view ≡ v → c.current.triggers.now ≡ replicate (length v.codes.now) None → c.touched.marks.now ≡ replicate c.current.pairs.now.classes 0
     → c.skips.now ≡ replicate (length c.current.pairs.now.ends.items) 0 → w.at ≡ c.current.asked.from → Compares h exceptions ns [] c w
-compares_first v h exceptions ns c w views pairs held triggers flags skips at = record {
+compares_first v h exceptions ns c w views pairs held view triggers marks skips at = record {
   pairs = pairs;
-  current = record { held = held; triggers = rw triggers (triggers_first v h views) };
-  flags = rw flags (flags_first c.current.pairs.now h (model_asked c.current.asked exceptions));
-  skips = rw skips (skips_first c.current.pairs.now.ends.items c.current.pairs.now.last.items c.flags.bytes.now pairs.linked);
+  current = record { views = rw view views; held = held; triggers = rw triggers (triggers_first v h views) };
+  flags = rw marks (marks_first c.current.pairs.now h (model_asked c.current.asked exceptions));
+  skips = rw skips (skips_first c.current.pairs.now.ends.items c.current.pairs.now.last.items c.touched.marks.now pairs.linked);
   at = at;
   up = tt;
   quiet = λ first. let q = model_asked c.current.asked exceptions in rw (none_settled q) refl;

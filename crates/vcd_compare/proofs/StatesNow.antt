@@ -1,9 +1,11 @@
 -- What the current states say of the definitions' states.
-use Rattle.vcd_compare.proofs.Cited.{zero, ◌≡◌, ◌≢◌, inl, inr, ℕ, ◌<◌, ◌≤◌, Bool, true, false, not, cond, ◌&&◌, List, [], ◌∷◌, ◌++◌, suc, ◌+◌, ◌-◌, max, min, replicate, drop, take, length, codes, slice_get, Option, Some, None, refl, sym, ap, ap₂, subst, ◌∙◌, arith, ◌⊎◌, bytes_eq, option_and_then, Decides, and_left, and_right, cases_lt, same_Some, or_self, IdCode, Header, final_value, BodyItem, time_after, Rule, all_match, digits_match, exactly, is_triggered, match, state_at, Value, extend, extension, IsViewOf, HeadView, codes_shown, held_at, shown_as, value_in, Held, real_text, value_at_size, Shown, digits_held, Table, length_extended, shown_are, rule_of, AreCurrent, differ_from, is_last, codes_differ, Current}
+use Rattle.vcd_compare.proofs.Cited.{zero, ◌≡◌, ◌≢◌, inl, inr, ℕ, ◌<◌, ◌≤◌, Bool, true, false, not, cond, ◌&&◌, List, [], ◌∷◌, ◌++◌, suc, ◌+◌, ◌*◌, ◌-◌, max, min, replicate, drop, take, length, codes, slice_get, Option, Some, None, refl, sym, ap, ap₂, subst, ◌∙◌, arith, ◌⊎◌, bytes_eq, option_and_then, Decides, and_left, and_right, cases_lt, same_Some, or_self, IdCode, Header, final_value, BodyItem, time_after, Rule, all_match, digits_match, exactly, is_triggered, match, state_at, Value, extend, extension, IsViewOf, HeadView, codes_shown, held_at, shown_as, value_in, Held, real_text, value_at_size, Shown, digits_held, Table, length_extended, shown_are, rule_of, AreCurrent, is_last, is_triggered_last, values_differ, codes_differ, codes_of, code_of, code_at, Code, IsClassOf, Pair, get_or_from_slice_get, Current}
 use Rattle.vcd_body.specs.declared.values.slot.Shown.TheVariants as shown
 use Rattle.vcd_compare.specs.declared.asked.Asked.{Asked}
 use Rattle.vcd_compare.proofs.FlagLemmas.{value_final}
 use Rattle.vcd_compare.proofs.MatchLemmas.{match_other, match_self}
+use Rattle.vcd_compare.specs.Comparing.{both_differ, differs_now, states_differ}
+use Rattle.vcd_compare.specs.Pairs.{both_codes}
 
 module _ (v : HeadView) (c : Current) (h : Header) (items : List BodyItem) (views : IsViewOf v h) (current : AreCurrent c h items) (code : ℕ)
     (a : IdCode) (there : slice_get h.codes code ≡ Some a) where
@@ -30,28 +32,73 @@ events_match true false = refl
 events_match false true = refl
 events_match false false = refl
 
--- if it is known whether two values are the same, and they are, or no rule is asked for, their
--- states match just then
-pub told_same : (k : Asked) (items : List BodyItem) (a b : IdCode) (t : ℕ) → time_after items ≤ t → a.event ≡ b.event → b.event ≡ false
-    → (same : Bool) → Decides same (final_value items a ≡ final_value items b)
-    → (same ≡ true) ⊎ ((k.x_of_one ≡ false) × (k.x_of_other ≡ false)) → (is_first : Bool) → not same ≡ differ_from is_first (rule_of k) items a b t
-told_same k items a b t le alike event same told either is_first = by_order is_first
+-- if it is known whether two values are the same, and they are, or no rule is asked for, they match
+-- just then
+pub told_same : (k : Asked) (one other : Option Value) (same : Bool) → Decides same (one ≡ other)
+    → (same ≡ true) ⊎ ((k.x_of_one ≡ false) × (k.x_of_other ≡ false)) → not same ≡ not (match (rule_of k) one other)
+told_same k one other same told either = ap not (sym (by_same same told either))
   where
-    first : state_at 1 items a t ≡ final_value items a
-    first = value_final a items t le (alike ∙ event)
-
-    second : state_at 1 items b t ≡ final_value items b
-    second = value_final b items t le event
-
-    by_same : (s : Bool) → Decides s (final_value items a ≡ final_value items b) → (s ≡ true) ⊎ ((k.x_of_one ≡ false) × (k.x_of_other ≡ false))
-        → (match (rule_of k) (final_value items a) (final_value items b) ≡ s) × (match (rule_of k) (final_value items b) (final_value items a) ≡ s)
-    by_same true d e = (match_self (rule_of k) _ _ (d.0 refl), match_self (rule_of k) _ _ (sym (d.0 refl)))
+    by_same : (s : Bool) → Decides s (one ≡ other) → (s ≡ true) ⊎ ((k.x_of_one ≡ false) × (k.x_of_other ≡ false)) → match (rule_of k) one other ≡ s
+    by_same true d e = match_self (rule_of k) _ _ (d.0 refl)
     by_same false d (inl e) = cc
-    by_same false d (inr (one, other)) = rw (one, other) (match_other _ _ (λ e. let no = d.1 e in cc), match_other _ _ (λ e. let no = d.1 (sym e) in cc))
+    by_same false d (inr (first, second)) = rw (first, second) (match_other _ _ (λ e. let no = d.1 e in cc))
 
-    by_order : (f : Bool) → not same ≡ cond f (codes_differ (rule_of k) items a b t) (codes_differ (rule_of k) items b a t)
-    by_order true = rw (first, second, alike ∙ event) (ap not (sym (by_same same told either).0))
-    by_order false = rw (first, second, event) (ap not (sym (by_same same told either).1))
+-- the states of the two codes of a class
+module _ (c : Current) (h : Header) (items : List BodyItem) (current : AreCurrent c h items) (class : ℕ) (p : Pair) (is : IsClassOf h c.pairs.now.ends.items class p)
+    (alike : (code_of p.one).event ≡ (code_of p.other).event) (t : ℕ) (le : time_after items ≤ t) where
+  abbrev one : ℕ
+  one = is.one.0.code
+
+  abbrev other : ℕ
+  other = is.other.0.code
+
+  abbrev a : IdCode
+  a = code_of p.one
+
+  abbrev b : IdCode
+  b = code_of p.other
+
+  codes_are : codes_of c.pairs.now.ends.items class ≡ Some (one, other)
+  codes_are = ap (λ o. both_codes o (slice_get c.pairs.now.ends.items (suc (2 * class)))) is.one.1 ∙ ap (both_codes (Some is.one.0)) is.other.1
+
+  code : (k : Code) × (slice_get c.view.codes.now one ≡ Some k) × (k.event ≡ a.event)
+  code = let m = code_at c.view.text.now c.view.codes.now h.codes one a current.views.codes is.one.2 in (m.0, m.1, m.2.event_is)
+
+  its : (k : Code) × (slice_get c.view.codes.now other ≡ Some k) × (k.event ≡ b.event)
+  its = let m = code_at c.view.text.now c.view.codes.now h.codes other b current.views.codes is.other.2 in (m.0, m.1, m.2.event_is)
+
+  trigger_of : (index : ℕ) (d : IdCode) (there : slice_get h.codes index ≡ Some d) → d.event ≡ true → is_triggered_last c index t ≡ is_triggered 1 items d t
+  trigger_of index d there e =
+      let last = current.triggers index d there e in
+      ap (λ o. is_last o t) (get_or_from_slice_get c.triggers.now index last.0 None last.1)
+      ∙ sym (last.2.is t le)
+
+  by_event : (e : Bool) → a.event ≡ e → states_differ c t (one, other) (Some code.0) (Some its.0) ≡ codes_differ (rule_of c.asked) items a b t
+  by_event true e =
+      let own : code.0.event ≡ true = code.2 ∙ e in
+      let first = trigger_of one a is.one.2 e in
+      let second = trigger_of other b is.other.2 (sym alike ∙ e) in
+      ap (λ d. cond d (cond (is_triggered_last c one t) (not (is_triggered_last c other t)) (is_triggered_last c other t)) (values_differ c one other)) own
+      ∙ ap (λ x. cond x (not (is_triggered_last c other t)) (is_triggered_last c other t)) first
+      ∙ ap (λ y. cond (is_triggered 1 items a t) (not y) y) second
+      ∙ sym (events_match (is_triggered 1 items a t) (is_triggered 1 items b t))
+      ∙ rw (e, sym alike ∙ e) refl
+  by_event false e =
+      let own : code.0.event ≡ false = code.2 ∙ e in
+      let first = held_state c.view c h items current.views current one a is.one.2 t le e in
+      let second = held_state c.view c h items current.views current other b is.other.2 t le (sym alike ∙ e) in
+      ap (λ d. cond d (cond (is_triggered_last c one t) (not (is_triggered_last c other t)) (is_triggered_last c other t)) (values_differ c one other)) own
+      ∙ ap (λ (o : Option Value). not (match (rule_of c.asked) o (value_in (codes_shown c.view) c.table other))) first
+      ∙ ap (λ (o : Option Value). not (match (rule_of c.asked) (state_at 1 items a t) o)) second
+      ∙ ap (λ d. not (match (cond d exactly (rule_of c.asked)) (state_at 1 items a t) (state_at 1 items b t))) (sym e)
+
+  pub differs_is : differs_now c class t ≡ codes_differ (rule_of c.asked) items (code_of p.one) (code_of p.other) t
+  unfolding differs_now
+  differs_is =
+      ap (both_differ c t) codes_are
+      ∙ ap (λ o. states_differ c t (one, other) o (slice_get c.view.codes.now other)) code.1
+      ∙ ap (states_differ c t (one, other) (Some code.0)) its.1
+      ∙ by_event a.event refl
 
 -- ---- digit by digit
 

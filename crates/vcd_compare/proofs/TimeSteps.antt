@@ -1,15 +1,15 @@
 -- What is written at a timestamp and at the end of the body, and how a run stands after it.
-use Rattle.vcd_compare.proofs.Cited.{◌≡◌, ◌⊎◌, inl, inr, ℕ, ◌<◌, ◌≤◌, ◌==◌, Bool, true, false, not, cond, ◌&&◌, nat_le, nat_lt, List, [], ◌∷◌, ◌++◌, length, flat_map, get_or, refl, sym, ap, subst, ◌∙◌, append-nil, arith, and_cases, le-leb, le-ltb, leb-true, lt-ltb, ltb-false, ltb-true, or_from, is_empty, Header, BodyItem, time_after, Extent, value_line, Names, compared_in, ends_run, side, within_close, within_open, IsViewOf, HeadView, model_asked, Compares, IsCounted, stops_before, differing, settled_as, ArePairLines, is_always, time_compared, RunStands, TellsEnd, flag_after, is_due_now, settled_by, Comparison, Watched, Run}
+use Rattle.vcd_compare.proofs.Cited.{◌≡◌, ◌⊎◌, inl, inr, ℕ, ◌<◌, ◌≤◌, ◌==◌, Bool, true, false, not, cond, ◌&&◌, nat_le, nat_lt, List, [], ◌∷◌, ◌++◌, length, flat_map, get_or, refl, sym, ap, subst, ◌∙◌, append-nil, arith, and_cases, le-leb, le-ltb, leb-true, lt-ltb, ltb-false, is_empty, Header, BodyItem, time_after, Extent, value_line, Names, compared_in, ends_run, side, within_close, within_open, IsViewOf, HeadView, model_asked, Compares, HasFlags, differs_at, flag_by, some_differ, settled_as, ArePairLines, time_compared, RunStands, TellsEnd, flag_after, is_due_now, settled_by, Comparison, Watched, Run}
 use Rattle.vcd_model.specs.Compare.{Asked as ModelAsked}
 use Rattle.vcd_compare.specs.Lines.{lines_due}
 use Rattle.vcd_compare.specs.declared.asked.Asked.{Asked}
-use Rattle.vcd_compare.proofs.CompareSteps.{compares_again, compares_later, none_for_all, open_stays, timestamp_on}
+use Rattle.vcd_compare.proofs.CompareSteps.{compares_again, compares_later, flag_is, flags_are, none_for_all, open_stays, some_there, time_later}
 use Rattle.vcd_compare.proofs.DueFlags.{due_by_flags, flag_for, none_due}
-use Rattle.vcd_compare.proofs.DueSome.{due_some, more_lines, none_one, with_flags}
+use Rattle.vcd_compare.proofs.DueSome.{due_some, more_lines, with_flags}
 use Rattle.vcd_compare.proofs.FlagLemmas.{compared_is}
 use Rattle.vcd_compare.proofs.OpenGrows.{close_is}
 use Rattle.vcd_compare.proofs.RunEnds.{first_ends, not_ended, open_settled, open_some, past_ends}
-use Rattle.vcd_compare.proofs.Cited.{AreListed, eq-eqb}
+use Rattle.vcd_compare.specs.Comparing.{differs_now}
 
 both_true : (a b : Bool) → (a && b) ≡ true → (a ≡ true) × (b ≡ true)
 both_true true b e = (refl, e)
@@ -29,19 +29,16 @@ module _ (h : Header) (exceptions : List (List ℕ)) (ns : List Names) (items : 
   late e = rw e refl
 
   -- if none is due there are none
-  pub none_now : IsCounted w c → is_due_now w c ≡ false → lines_due q h ns items ≡ []
-  none_now counted none = by_cases (and_cases _ _ none)
+  pub none_now : is_due_now w c ≡ false → lines_due q h ns items ≡ []
+  none_now none = by_cases (and_cases _ _ none)
     where
-      by_cases : (nat_lt 0 w.differing ≡ false) ⊎ (nat_le w.at c.current.asked.to ≡ false) → lines_due q h ns items ≡ []
-      by_cases (inl e) =
-          let few = ltb-false 0 w.differing e in
-          let zero : differing c.flags.bytes.now ≡ 0 = sym counted.differing ∙ omega arith in
-          none_due q h ns items stands.up stands.quiet (none_for_all c.current.pairs.now h q ns items c.flags.bytes.now stands.pairs stands.flags zero)
-      by_cases (inr e) = late (ap (λ (t : ℕ). nat_le t c.current.asked.to) (sym stands.at) ∙ e)
+      by_cases : (nat_le w.at c.current.asked.to ≡ false) ⊎ (some_differ c w.at ≡ false) → lines_due q h ns items ≡ []
+      by_cases (inl e) = late (ap (λ (t : ℕ). nat_le t c.current.asked.to) (sym stands.at) ∙ e)
+      by_cases (inr e) = none_due q h ns items stands.up stands.quiet (none_for_all h exceptions ns items c w stands e)
 
   module _ (due : is_due_now w c ≡ true) where
     asked_now : time_compared q items ≤ q.to
-    asked_now = let le : w.at ≤ c.current.asked.to = leb-true w.at c.current.asked.to (both_true (nat_lt 0 w.differing) (nat_le w.at c.current.asked.to) due).1 in let at = stands.at in omega arith
+    asked_now = let le : w.at ≤ c.current.asked.to = leb-true w.at c.current.asked.to (both_true (nat_le w.at c.current.asked.to) (some_differ c w.at) due).0 in let at = stands.at in omega arith
 
     -- else they are those of the flags
     pub lines_now : flat_map (λ p. cond (flag_for q items p == 1) (value_line (side items) (side items) p w.at) []) (compared_in q h ns) ≡ lines_due q h ns items
@@ -50,23 +47,30 @@ module _ (h : Header) (exceptions : List (List ℕ)) (ns : List Names) (items : 
         ∙ sym (due_by_flags q h ns items stands.up stands.quiet ∙ rw (le-leb (time_compared q items) q.to asked_now) refl)
 
     -- and they are put by the flags
-    pub puts_now : (v : HeadView) (takes : List ℕ → Type 0) → IsViewOf v h → ArePairLines v c.current c.flags.bytes.now w.at takes → takes (lines_due q h ns items)
-    puts_now v takes views lines =
+    pub puts_now : (v : HeadView) (takes : List ℕ → Type 0) (flags : List ℕ) → IsViewOf v h → HasFlags c w.at flags
+        → ArePairLines v c.current flags w.at takes → takes (lines_due q h ns items)
+    puts_now v takes flags views has lines =
         let ps = c.current.pairs.now in
         subst takes lines_now
         (lines h items (compared_in q h ns) (flag_for q items) views stands.current not_before
-        (with_flags ps h q ns items c.flags.bytes.now stands.pairs stands.flags ps.rows.items (compared_in q h ns) stands.pairs.rows))
+        (with_flags ps h q ns items stands.pairs flags (flags_are h exceptions ns items c w stands flags has) ps.rows.items (compared_in q h ns) stands.pairs.rows))
 
     -- and there are some
-    pub some_now : IsCounted w c → is_empty (lines_due q h ns items) ≡ false
-    some_now counted =
-        due_some c.current.pairs.now h q ns items c.flags.bytes.now stands.pairs stands.flags stands.up stands.quiet asked_now
-        (let some : 0 < w.differing = ltb-true 0 w.differing (both_true (nat_lt 0 w.differing) (nat_le w.at c.current.asked.to) due).0 in omega (arith, some, counted.differing))
+    pub some_now : is_empty (lines_due q h ns items) ≡ false
+    some_now =
+        let some = some_there (differs_at c w.at) (length c.touched.marks.now) (both_true (nat_le w.at c.current.asked.to) (some_differ c w.at) due).1 in
+        let both = both_true (get_or c.touched.marks.now some.0 0 == 1) (differs_now c.current some.0 w.at) some.2 in
+        let low = some.1 in
+        let many = stands.flags.many in
+        let below : some.0 < c.current.pairs.now.classes = omega (arith, low, many) in
+        due_some c.current.pairs.now h q ns items stands.pairs some.0
+        (λ p is. flag_is h exceptions ns items c w stands some.0 p below is ∙ rw (both.0, both.1) refl)
+        below stands.up stands.quiet asked_now
 
 -- ---- the end of the body
 
 module _ (h : Header) (exceptions : List (List ℕ)) (ns : List Names) (items : List BodyItem) (run : Run)
-    (stands : RunStands h exceptions ns items run) (counted : IsCounted run.watched run.comparison) where
+    (stands : RunStands h exceptions ns items run) where
   abbrev its : ModelAsked
   its = model_asked run.comparison.current.asked exceptions
 
@@ -77,7 +81,7 @@ module _ (h : Header) (exceptions : List (List ℕ)) (ns : List Names) (items : 
   left_due = close_is its h ns items stands.compares.up
 
   pub none_left : is_due_now run.watched run.comparison ≡ false → within_close its h ns items ≡ []
-  none_left none = left_due ∙ none_now h exceptions ns items run.comparison run.watched stands.compares counted none
+  none_left none = left_due ∙ none_now h exceptions ns items run.comparison run.watched stands.compares none
 
   pub differs_none : is_due_now run.watched run.comparison ≡ false → run.differs ≡ not (is_empty both)
   differs_none none = stands.differs ∙ ap (λ l. not (is_empty l)) (sym (ap (λ l. within_open its h ns items ++ l) (none_left none) ∙ append-nil (within_open its h ns items)))
@@ -85,7 +89,7 @@ module _ (h : Header) (exceptions : List (List ℕ)) (ns : List Names) (items : 
   pub differs_some : is_due_now run.watched run.comparison ≡ true → true ≡ not (is_empty both)
   differs_some due =
       sym (ap not (more_lines (within_open its h ns items) (within_close its h ns items) (ap is_empty left_due
-      ∙ some_now h exceptions ns items run.comparison run.watched stands.compares due counted)))
+      ∙ some_now h exceptions ns items run.comparison run.watched stands.compares due)))
 
 -- ---- a timestamp
 
@@ -130,7 +134,7 @@ module _ (h : Header) (exceptions : List (List ℕ)) (ns : List Names) (items : 
         (stands.differs ∙ ap (λ l. not (is_empty l)) (sym (open_stays h exceptions ns items t run.comparison run.watched stands.compares forth low)))
 
   -- one above it settles it
-  module _ (high : run.watched.at < t) (counted : IsCounted run.watched run.comparison) where
+  module _ (high : run.watched.at < t) where
     above : time_compared request items < t
     above = let at = stands.compares.at in omega arith
 
@@ -142,29 +146,27 @@ module _ (h : Header) (exceptions : List (List ℕ)) (ns : List Names) (items : 
       open_same : within_open request h ns items ≡ open_after
       open_same =
           sym (open_settled request h ns items t stands.compares.up forth
-          ∙ ap (λ l. within_open request h ns items ++ l) (settles_due ∙ none_now h exceptions ns items run.comparison run.watched stands.compares counted none)
+          ∙ ap (λ l. within_open request h ns items ++ l) (settles_due ∙ none_now h exceptions ns items run.comparison run.watched stands.compares none)
           ∙ append-nil (within_open request h ns items))
 
-      not_stopped : nat_lt to t ≡ false → stops_before run.watched run.comparison t ≡ false
-      not_stopped on =
+      none_here : nat_lt to t ≡ false → some_differ run.comparison run.watched.at ≡ false
+      none_here on =
           let within = ltb-false to t on in
-          or_from _ _ on (by_test (nat_lt 0 run.watched.differing) (rw (le-leb run.watched.at to (omega arith)) at none))
-        where
-          by_test : (b : Bool) → (b && true) ≡ false → (b && nat_lt run.watched.at t) ≡ false
-          by_test true e = cc
-          by_test false e = refl
+          ap (λ b. b && some_differ run.comparison run.watched.at) (sym (le-leb run.watched.at to (omega arith))) ∙ none
 
-      pub tells_none : (run' : Run) → run'.comparison ≡ run.comparison → run'.watched.at ≡ t → run'.differs ≡ run.differs → TellsEnd request h exceptions ns after run' (nat_lt to t)
-      tells_none run' same at differs =
-          tells_past run' (ap (λ (c : Comparison). c.current.asked) same)
-          (λ on. subst (λ (c : Comparison). Compares h exceptions ns after c run'.watched) (sym same)
-          (timestamp_on h exceptions ns items t run.comparison run.watched stands.compares forth counted (not_stopped on) run'.watched (at ∙ omega arith)).0)
+      pub tells_none : (run' : Run) → run'.comparison.current ≡ run.comparison.current → run'.comparison.skips.now ≡ run.comparison.skips.now → run'.watched.at ≡ t
+          → length run'.comparison.touched.marks.now ≡ length run.comparison.touched.marks.now
+          → ((k : ℕ) → get_or run'.comparison.touched.marks.now k 0 ≡ settled_as 0 (get_or run.comparison.touched.marks.now k 0))
+          → run'.differs ≡ run.differs → TellsEnd request h exceptions ns after run' (nat_lt to t)
+      tells_none run' same skips at many cleared differs =
+          tells_past run' (ap (λ c. c.asked) same)
+          (λ on. (time_later h exceptions ns items t run.comparison run.watched stands.compares forth on high (none_here on) run'.comparison run'.watched same skips at many cleared).0)
           (differs ∙ stands.differs ∙ ap (λ l. not (is_empty l)) open_same)
 
     -- some are
     module _ (due : is_due_now run.watched run.comparison ≡ true) where
       some : is_empty (lines_due request h ns items) ≡ false
-      some = some_now h exceptions ns items run.comparison run.watched stands.compares due counted
+      some = some_now h exceptions ns items run.comparison run.watched stands.compares due
 
       differs_after : true ≡ not (is_empty open_after)
       differs_after = sym (ap not (open_some request h ns items t stands.compares.up forth above some))
@@ -176,34 +178,15 @@ module _ (h : Header) (exceptions : List (List ℕ)) (ns : List Names) (items : 
         differs = differs ∙ differs_after;
       }
 
-      pub tells_later : (run' : Run) → run'.comparison.current ≡ run.comparison.current
+      pub tells_later : (run' : Run) (flags : List ℕ) → HasFlags run.comparison run.watched.at flags → run'.comparison.current ≡ run.comparison.current
           → run'.comparison.skips.now ≡ run.comparison.skips.now → run'.watched.at ≡ t
-          → length run'.comparison.flags.bytes.now ≡ length run.comparison.flags.bytes.now
-          → ((k : ℕ) → get_or run'.comparison.flags.bytes.now k 0 ≡ settled_as
-          (flag_after request.extent) (get_or run.comparison.flags.bytes.now k 0)) → (request.extent ≡ Extent.First → ⊥) → run'.differs ≡ true
-          → TellsEnd request h exceptions ns after run' (nat_lt to t)
-      tells_later run' same skips at many each others differs =
+          → length run'.comparison.touched.marks.now ≡ length run.comparison.touched.marks.now
+          → ((k : ℕ) → get_or run'.comparison.touched.marks.now k 0 ≡ settled_as (flag_after request.extent) (get_or flags k 0))
+          → (request.extent ≡ Extent.First → ⊥) → run'.differs ≡ true → TellsEnd request h exceptions ns after run' (nat_lt to t)
+      tells_later run' flags has same skips at many each others differs =
+          let are = flags_are h exceptions ns items run.comparison run.watched stands.compares flags has in
           tells_past run' (ap (λ c. c.asked) same)
-          (λ on. compares_later h exceptions ns items t run.comparison run.watched stands.compares forth high on run'.comparison run'.watched same skips at many each (λ e. absurd (others e)))
+          (λ on. compares_later h exceptions ns items t run.comparison run.watched stands.compares forth high on run'.comparison run'.watched same skips at many
+          (λ k two. each k ∙ ap (settled_as (flag_after request.extent)) (has.each k ∙ ap (λ m. flag_by m (differs_now run.comparison.current k run.watched.at)) two))
+          (λ class p below is. each class ∙ ap (settled_as (flag_after request.extent)) (are.each class p below is)) (λ e. absurd (others e)))
           (differs ∙ differs_after)
-
--- the flags that are settled are counted as none
-not_one : (e : Extent) (f : ℕ) → (settled_as (flag_after e) f == 1) ≡ false
-not_one e f = by_tests (f == 1) (is_always e) refl
-  where
-    by_tests : (b a : Bool) → (f == 1) ≡ b → (cond b (cond a 0 2) f == 1) ≡ false
-    by_tests true true e = refl
-    by_tests true false e = refl
-    by_tests false a e = e
-
-pub counted_none : (e : Extent) (old new : List ℕ) → length new ≡ length old
-    → ((k : ℕ) → k < length old → get_or new k 0 ≡ settled_as (flag_after e) (get_or old k 0)) → 0 ≡ differing new
-counted_none e old new many each = sym (none_one new (λ k low. ap (λ f. f == 1) (each k (omega arith)) ∙ not_one e (get_or old k 0)))
-
--- none of them has to be listed
-pub listed_none : (e : Extent) (old new classes : List ℕ) (listed : ℕ) → ((k : ℕ) → get_or new k 0 ≡ settled_as (flag_after e) (get_or old k 0)) → AreListed new classes listed
-listed_none e old new classes listed each le class one = let no = not_one e (get_or old class 0) in let yes = eq-eqb (get_or new class 0) 1 one in
-    let same = ap (λ f. f == 1) (each class) in absurd (true-false (sym yes ∙ same ∙ no))
-  where
-    true-false : true ≡ false → ⊥
-    true-false e = cc

@@ -1,29 +1,29 @@
 -- What a comparison keeps between two items.
-use Rattle.std.specs.Prelude.{◌≡◌, ◌≢◌, ◌⊎◌, ℕ, suc, ◌+◌, ◌-◌, ◌/◌, ◌%◌, ◌<◌, ◌≤◌, Bool, true, false, cond, ◌&&◌, ◌||◌, ◌==◌, nat_lt, List, [], ◌∷◌, ◌++◌, length, is_none, slice_get, slice_set, get_or, take, Option, Some, None, IfSome, Result, Ok}
-use Rattle.std.specs.Bool.{Decides}
+use Rattle.std.specs.Prelude.{◌≡◌, ◌≢◌, ◌⊎◌, ℕ, zero, suc, ◌-◌, ◌/◌, ◌<◌, ◌≤◌, Bool, true, false, cond, not, ◌&&◌, ◌||◌, ◌==◌, nat_lt, List, [], ◌∷◌, ◌++◌, length, is_none, slice_get, slice_set, get_or, take, Option, Some, None, IfSome, Result, Ok}
 use Rattle.std.specs.List.{list_any}
 use Rattle.vcd_model.specs.Declarations.{IdCode, code_of}
 use Rattle.vcd_model.specs.Header.{Header}
-use Rattle.vcd_model.specs.History.{final_value, gives_to}
 use Rattle.vcd_model.specs.Items.{BodyItem, marks, time_after}
-use Rattle.vcd_model.specs.Compare.{Asked as ModelAsked, Extent, Pair, Rule, is_triggered}
+use Rattle.vcd_model.specs.Compare.{Asked as ModelAsked, Extent, Pair, is_triggered, match}
 use Rattle.vcd_model.specs.Cut.{is_mark_above}
 use Rattle.vcd_model.specs.Within.{Names, within_open}
 use Rattle.vcd_text.specs.declared.device.WriteFailed.{WriteFailed}
 use Rattle.vcd_view.specs.Views.{IsViewOf}
+use Rattle.vcd_view.specs.declared.view.Code.{Code}
 use Rattle.vcd_view.specs.declared.view.HeadView.{HeadView}
 use Rattle.vcd_body.specs.Current.{AreHeld}
 use Rattle.vcd_body.specs.Given.{IsItem}
 use Rattle.vcd_body.specs.Items.{AreRegsAfter, regs_after}
+use Rattle.vcd_body.specs.Names.{IsLaidOut, codes_shown, value_in}
 use Rattle.vcd_body.specs.Taken.{TakesItem}
 use Rattle.vcd_body.specs.Walk.{Stage}
 use Rattle.vcd_body.specs.declared.ahead.ScannedItem.{ScannedItem}
 use Rattle.vcd_body.specs.declared.item.Item.{Item}
 use Rattle.vcd_body.specs.declared.item.Regs.{Regs}
-use Rattle.vcd_compare.specs.Asked.{model_asked}
-use Rattle.vcd_compare.specs.Flags.{AreListed, differing, settled_as}
+use Rattle.vcd_compare.specs.Asked.{model_asked, rule_of}
+use Rattle.vcd_compare.specs.Touched.{IsListed, settled_as}
 use Rattle.vcd_compare.specs.Lines.{DoNotFall, IsQuiet, codes_differ, flag_of, time_compared}
-use Rattle.vcd_compare.specs.Pairs.{ArePairs, IsClassOf}
+use Rattle.vcd_compare.specs.Pairs.{AreLinked, ArePairs, IsClassOf, codes_of}
 use Rattle.vcd_compare.specs.declared.comparing.Comparison.{Comparison}
 use Rattle.vcd_compare.specs.declared.current.Current.{Current}
 use Rattle.vcd_compare.specs.declared.comparing.Watched.{Watched}
@@ -60,20 +60,15 @@ pub record AreFlags (ps : Pairs) (h : Header) (q : ModelAsked) (items : List Bod
   pub many : length flags ≡ ps.classes
   pub each : (class : ℕ) (p : Pair) → class < ps.classes → IsClassOf h ps.ends.items class p → get_or flags class 0 ≡ flag_of q items (code_of p.one) (code_of p.other)
 
--- none of the ends from an index on that are of this class has the code at an index
-abbrev pub HasNoEnd : List End → (code class low : ℕ) → Type 0
-HasNoEnd ends code class low = (i : ℕ) (e : End) → low ≤ i → i / 2 ≡ class → slice_get ends i ≡ Some e → e.code ≢ code
+-- the flag of a class by its mark: if it is touched, whether its codes differ
+abbrev pub flag_by : ℕ → Bool → ℕ
+flag_by mark differs = cond (mark == 1) (cond differs 1 0) mark
 
--- Some of the ends that have the code at an index were compared, those from an index on. So the
--- flags of their classes are those after the items, and all others are still those before the last
--- of the items. The next end that is compared has the code too.
-pub record AreMarked (ps : Pairs) (h : Header) (q : ModelAsked) (before items : List BodyItem) (code low : ℕ) (flags : List ℕ) : Type 0 where
-  pub many : length flags ≡ ps.classes
-  pub within : low ≤ length ps.ends.items
-  pub next : (i : ℕ) (e : End) → low ≡ suc i → slice_get ps.ends.items i ≡ Some e → e.code ≡ code
+-- the marks of the classes tell their flags
+pub record AreMarks (ps : Pairs) (h : Header) (q : ModelAsked) (items : List BodyItem) (marks : List ℕ) : Type 0 where
+  pub many : length marks ≡ ps.classes
   pub each : (class : ℕ) (p : Pair) → class < ps.classes → IsClassOf h ps.ends.items class p
-      → (get_or flags class 0 ≡ flag_of q items (code_of p.one) (code_of p.other))
-      ⊎ ((get_or flags class 0 ≡ flag_of q before (code_of p.one) (code_of p.other)) × HasNoEnd ps.ends.items code class low)
+      → flag_of q items (code_of p.one) (code_of p.other) ≡ flag_by (get_or marks class 0) (codes_differ q.rule items (code_of p.one) (code_of p.other) (time_compared q items))
 
 -- n is 1 plus the index of an end below a bound that has the code, or 0; all classes that have an
 -- end with the code from there on, below the bound, had their only line
@@ -86,31 +81,55 @@ pub record IsEarlierEnd (ends : List End) (flags : List ℕ) (below code n : ℕ
 abbrev pub AreSkips : List End → (flags skips : List ℕ) → Type 0
 AreSkips ends flags skips = (i : ℕ) (e : End) → slice_get ends i ≡ Some e → IsEarlierEnd ends flags i e.code (e.earlier - get_or skips i 0)
 
--- the index of the other end of a class
-abbrev pub partner : ℕ → ℕ
-partner i = cond (i % 2 == 0) (i + 1) (i - 1)
+-- an end of the class has the code
+abbrev pub IsOfCode : List End → (code class : ℕ) → Type 0
+IsOfCode ends code class = (i : ℕ) × (e : End) × (slice_get ends i ≡ Some e) × (e.code ≡ code) × (i / 2 ≡ class)
+
+-- Of the classes of a code those were touched that have an end from an index on, and no other; the
+-- next end has the code too.
+pub record AreTouched (ends : List End) (code low : ℕ) (old new : List ℕ) : Type 0 where
+  pub many : length new ≡ length old
+  pub within : low ≤ length ends
+  pub next : (i : ℕ) (e : End) → low ≡ suc i → slice_get ends i ≡ Some e → e.code ≡ code
+  pub each : (k : ℕ) → (get_or new k 0 ≡ get_or old k 0) ⊎ ((get_or old k 0 ≡ 0) × (get_or new k 0 ≡ 1) × IsOfCode ends code k)
+  pub its : (i : ℕ) (e : End) → low ≤ i → slice_get ends i ≡ Some e → e.code ≡ code → i / 2 < length old → get_or new (i / 2) 0 ≢ 0
+
+-- all classes of a code were touched, but those that are done, and the skips are right
+abbrev pub Touches : Pairs → ℕ → (old new skips new_skips : List ℕ) → Type 0
+Touches ps code old new skips new_skips = AreLinked ps.ends.items ps.last.items → code < length ps.last.items → AreSkips ps.ends.items old skips
+    → AreTouched ps.ends.items code 0 old new × AreSkips ps.ends.items new new_skips
 
 -- ---- states
 
 -- the current states are those after these items
 pub record AreCurrent (c : Current) (h : Header) (items : List BodyItem) : Type 0 where
+  pub views : IsViewOf c.view h
   pub held : AreHeld c.table h items
   pub triggers : AreTriggers c.triggers.now h items
 
--- two codes of this header have these values at its indexes
-pub record AreCodes (h : Header) (one other : ℕ) (a b : IdCode) : Type 0 where
-  pub one_is : slice_get h.codes one ≡ Some a
-  pub other_is : slice_get h.codes other ≡ Some b
-  pub same : a.event ≡ b.event
+-- the event at an index was triggered last at this time
+abbrev pub is_triggered_last : Current → (code at : ℕ) → Bool
+is_triggered_last c code at = is_last (get_or c.triggers.now code None) at
 
--- an answer says whether the values of two codes are the same, and then they are not events
-abbrev pub TellsSame : List BodyItem → IdCode → IdCode → Option Bool → Type 0
-TellsSame items a b o = IfSome o (λ same. (b.event ≡ false) × Decides same (final_value items a ≡ final_value items b))
+-- the values of the codes at these indexes do not match
+abbrev pub values_differ : Current → (one other : ℕ) → Bool
+values_differ c one other = not (match (rule_of c.asked) (value_in (codes_shown c.view) c.table one) (value_in (codes_shown c.view) c.table other))
 
--- the states of two codes do not match at a time, if the first of them is that of the one or of the
--- other
-abbrev pub differ_from : Bool → Rule → List BodyItem → IdCode → IdCode → ℕ → Bool
-differ_from is_first r items a b t = cond is_first (codes_differ r items a b t) (codes_differ r items b a t)
+-- the states of these codes, which are declared so, do not match at this time
+abbrev pub states_differ : Current → (at : ℕ) → ℕ × ℕ → (code its : Option Code) → Bool
+states_differ c at both None its = false
+states_differ c at both (Some code) None = false
+states_differ c at both (Some code) (Some its) =
+    cond code.event (cond (is_triggered_last c both.0 at) (not (is_triggered_last c both.1 at)) (is_triggered_last c both.1 at)) (values_differ c both.0 both.1)
+
+-- the states of these two codes do not match, if there are two
+abbrev pub both_differ : Current → (at : ℕ) → Option (ℕ × ℕ) → Bool
+both_differ c at None = false
+both_differ c at (Some both) = states_differ c at both (slice_get c.view.codes.now both.0) (slice_get c.view.codes.now both.1)
+
+-- those of the two codes of a class do not match
+unfoldable pub differs_now : Current → (class at : ℕ) → Bool
+differs_now c class at = both_differ c at (codes_of c.pairs.now.ends.items class)
 
 -- ---- all of it
 
@@ -118,8 +137,8 @@ differ_from is_first r items a b t = cond is_first (codes_differ r items a b t) 
 pub record Compares (h : Header) (exceptions : List (List ℕ)) (ns : List Names) (items : List BodyItem) (c : Comparison) (w : Watched) : Type 0 where
   pub pairs : ArePairs c.current.pairs.now h (model_asked c.current.asked exceptions) ns
   pub current : AreCurrent c.current h items
-  pub flags : AreFlags c.current.pairs.now h (model_asked c.current.asked exceptions) items c.flags.bytes.now
-  pub skips : AreSkips c.current.pairs.now.ends.items c.flags.bytes.now c.skips.now
+  pub flags : AreMarks c.current.pairs.now h (model_asked c.current.asked exceptions) items c.touched.marks.now
+  pub skips : AreSkips c.current.pairs.now.ends.items c.touched.marks.now c.skips.now
   pub at : w.at ≡ time_compared (model_asked c.current.asked exceptions) items
   pub up : DoNotFall 0 (marks items)
   pub quiet : (model_asked c.current.asked exceptions).extent ≡ Extent.First → IsQuiet (model_asked c.current.asked exceptions) h ns items
@@ -130,25 +149,51 @@ pub record SameRequest (c c' : Comparison) : Type 0 where
   pub pairs : c'.current.pairs.now ≡ c.current.pairs.now
   pub asked : c'.current.asked ≡ c.current.asked
 
--- it is counted how many flags are 1, and the rows of their classes are found
-pub record IsCounted (w : Watched) (c : Comparison) : Type 0 where
-  pub differing : w.differing ≡ differing c.flags.bytes.now
-  pub listed : AreListed c.flags.bytes.now c.flags.classes.now c.flags.listed
-  pub rows : HaveRows c.current.pairs.now.rows.items c.flags c.links c.due.now
+-- it can go on: the classes that are touched and the rows of all are found
+pub record CanGoOn (c : Comparison) : Type 0 where
+  pub listed : IsListed c.touched
+  pub laid : IsLaidOut c.current.table
+  pub rows : HaveRows c.current.pairs.now.rows.items c.touched c.links c.due.now
 
--- the rows whose flag was 1 are due, in order, and their flags became another number
-pub record Settles (after : ℕ) (c c' : Comparison) (count : ℕ) : Type 0 where
+-- some number below a bound passes
+abbrev pub some_below : (ℕ → Bool) → ℕ → Bool
+some_below f zero = false
+some_below f (suc n) = some_below f n || f n
+
+-- a class is touched, and its codes do not match at this time
+abbrev pub differs_at : Comparison → (at class : ℕ) → Bool
+differs_at c at class = (get_or c.touched.marks.now class 0 == 1) && differs_now c.current class at
+
+-- so it is of some class
+abbrev pub some_differ : Comparison → ℕ → Bool
+some_differ c at = some_below (differs_at c at) (length c.touched.marks.now)
+
+-- the flags at this time
+pub record HasFlags (c : Comparison) (at : ℕ) (flags : List ℕ) : Type 0 where
+  pub many : length flags ≡ length c.touched.marks.now
+  pub each : (k : ℕ) → get_or flags k 0 ≡ flag_by (get_or c.touched.marks.now k 0) (differs_now c.current k at)
+
+-- only those classes are touched still that differ at this time
+pub record Drops (at : ℕ) (c c' : Comparison) : Type 0 where
+  pub rest : c' ≡ record c { touched = c'.touched }
+  pub ready : CanGoOn c'
+  pub flags : HasFlags c at c'.touched.marks.now
+
+-- the rows whose flag is 1 are due, in order, and those marks became another number; no class is
+-- touched any more
+pub record Settles (at after : ℕ) (c c' : Comparison) (count : ℕ) : Type 0 where
   pub current : c'.current ≡ c.current
   pub skips : c'.skips.now ≡ c.skips.now
-  pub many : length c'.flags.bytes.now ≡ length c.flags.bytes.now
-  pub each : (k : ℕ) → get_or c'.flags.bytes.now k 0 ≡ settled_as after (get_or c.flags.bytes.now k 0)
-  pub rows : HaveRows c'.current.pairs.now.rows.items c'.flags c'.links c'.due.now
+  pub flags : List ℕ
+  pub has : HasFlags c at flags
+  pub many : length c'.touched.marks.now ≡ length c.touched.marks.now
+  pub each : (k : ℕ) → get_or c'.touched.marks.now k 0 ≡ settled_as after (get_or flags k 0)
   pub within : count ≤ length c'.due.now
-  pub due : let rows : List PairRow = c.current.pairs.now.rows.items in take count c'.due.now ≡ chosen (is_flagged c.flags.bytes.now (classes_of rows)) (length rows)
+  pub due : let rows : List PairRow = c.current.pairs.now.rows.items in take count c'.due.now ≡ chosen (is_flagged flags (classes_of rows)) (length rows)
 
 -- a timestamp of this time ends the run, or settles lines that are due
 abbrev pub stops_before : Watched → Comparison → ℕ → Bool
-stops_before w c time = nat_lt c.current.asked.to time || (nat_lt 0 w.differing && nat_lt w.at time)
+stops_before w c time = nat_lt c.current.asked.to time || (nat_lt w.at time && some_differ c w.at)
 
 -- with one more item nothing is due, and the comparison stands after it
 abbrev pub ComparesOn : HeadView → List ℕ → Item → Regs → (c c' : Comparison) → (w w' : Watched) → Type 0
@@ -167,24 +212,3 @@ pub record ComparesOne (v : HeadView) (s t : Stage Watched Comparison) (result :
   pub regs : t.regs ≡ regs_after s.regs scanned.item
   pub same : SameRequest s.command t.command
   pub on : ComparesOn v scanned.text.now scanned.item s.regs s.command t.command s.visit t.visit
-
--- an item that is no timestamp gave the code at an index a new value, and these are the flags and
--- skips before it
-pub record GivesNew (v : HeadView) (c : Current) (code at : ℕ) (old skips : List ℕ) (h : Header) (exceptions : List (List ℕ)) (ns : List Names)
-    (items : List BodyItem) (x : BodyItem) (a : IdCode) : Type 0 where
-  pub views : IsViewOf v h
-  pub there : slice_get h.codes code ≡ Some a
-  pub gives : gives_to a x ≡ true
-  pub other : marks (x ∷ []) ≡ []
-  pub pairs : ArePairs c.pairs.now h (model_asked c.asked exceptions) ns
-  pub current : AreCurrent c h (items ++ x ∷ [])
-  pub at_is : at ≡ time_compared (model_asked c.asked exceptions) items
-  pub flags : AreFlags c.pairs.now h (model_asked c.asked exceptions) items old
-  pub skipping : AreSkips c.pairs.now.ends.items old skips
-
--- the flags are those after it, and the skips are right
-abbrev pub MarksChange : HeadView → Current → (code at : ℕ) → (old new skips new_skips : List ℕ) → Type 0
-MarksChange v c code at old new skips new_skips = (h : Header) (exceptions : List (List ℕ)) (ns : List Names) (items : List BodyItem) (x : BodyItem) (a : IdCode)
-    → GivesNew v c code at old skips h exceptions ns items x a
-    → AreFlags c.pairs.now h (model_asked c.asked exceptions) (items ++ x ∷ []) new
-    × AreSkips c.pairs.now.ends.items new new_skips

@@ -1,6 +1,6 @@
 pub mod Asked
 pub mod Comparing
-pub mod Flags
+pub mod Touched
 pub mod Rows
 pub mod Lines
 pub mod LineTexts

@@ -1,5 +1,5 @@
 -- Which variables of a header are compared, as rows and codes by number.
-use Rattle.std.specs.Prelude.{◌≡◌, ◌≢◌, ℕ, suc, ◌+◌, ◌*◌, ◌<◌, ◌≤◌, Bool, true, cond, List, ◌++◌, length, map, flat_map, slice_get, Some}
+use Rattle.std.specs.Prelude.{◌≡◌, ◌≢◌, ℕ, suc, ◌+◌, ◌*◌, ◌<◌, ◌≤◌, Bool, true, cond, List, ◌++◌, length, map, flat_map, slice_get, Option, Some, None}
 use Rattle.std.specs.List.{AllZip}
 use Rattle.vcd_model.specs.Declarations.{Declaration, Variable, code_of}
 use Rattle.vcd_model.specs.Header.{Header}
@@ -19,6 +19,16 @@ names_in ns = map (λ n. (n.one.items, n.other.items)) ns
 -- the end at this index has the code of the variable
 abbrev pub HasEnd : Header → List End → ℕ → Variable → Type 0
 HasEnd h ends index v = (e : End) × (slice_get ends index ≡ Some e) × (slice_get h.codes e.code ≡ Some (code_of v))
+
+-- the codes of two ends
+abbrev pub both_codes : Option End → Option End → Option (ℕ × ℕ)
+both_codes None other = None
+both_codes (Some one) None = None
+both_codes (Some one) (Some other) = Some (one.code, other.code)
+
+-- the two codes of a class
+abbrev pub codes_of : List End → ℕ → Option (ℕ × ℕ)
+codes_of ends class = both_codes (slice_get ends (2 * class)) (slice_get ends (suc (2 * class)))
 
 -- the two ends of the class have the codes of the two variables
 pub record IsClassOf (h : Header) (ends : List End) (class : ℕ) (p : Pair) : Type 0 where

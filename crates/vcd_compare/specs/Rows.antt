@@ -2,7 +2,7 @@
 use Rattle.std.specs.Prelude.{◌≡◌, ◌≢◌, ℕ, suc, ◌<◌, ◌≤◌, ◌==◌, ◌&&◌, not, Bool, cond, List, length, get_or, map, slice_get, Some, take}
 use Rattle.vcd_run.specs.Listed.{times}
 use Rattle.vcd_compare.specs.declared.pairs.PairRow.{PairRow}
-use Rattle.vcd_compare.specs.declared.flags.Flags.{Flags}
+use Rattle.vcd_compare.specs.declared.touched.Touched.{Touched}
 use Rattle.vcd_compare.specs.declared.rows.Links.{Links}
 
 -- the classes of rows
@@ -21,9 +21,9 @@ pub record AreLinkedRows (classes : List ℕ) (count : ℕ) (last earlier : List
   pub each : (i class : ℕ) → i < count → slice_get classes i ≡ Some class → class < length last → IsLastRow classes i class (get_or earlier i 0)
 
 -- all rows are linked, and there is room for each
-pub record HaveRows (rows : List PairRow) (flags : Flags) (links : Links) (due : List ℕ) : Type 0 where
+pub record HaveRows (rows : List PairRow) (touched : Touched) (links : Links) (due : List ℕ) : Type 0 where
   pub linked : AreLinkedRows (classes_of rows) (length (classes_of rows)) links.last.now links.earlier.now
-  pub last : length flags.bytes.now ≤ length links.last.now
+  pub last : length touched.marks.now ≤ length links.last.now
   pub room : length rows ≤ length due
 
 -- the row at an index is of the class

@@ -13,7 +13,7 @@ use Rattle.vcd_body.specs.declared.answer.Done.{Done}
 use Rattle.vcd_body.specs.declared.answer.Stop.{Stop}
 use Rattle.vcd_run.specs.Plan.{Plan}
 use Rattle.vcd_compare.specs.Asked.{model_asked, model_extent}
-use Rattle.vcd_compare.specs.Comparing.{Compares, Settles}
+use Rattle.vcd_compare.specs.Comparing.{Compares, Settles, some_differ}
 use Rattle.vcd_compare.specs.Lines.{is_always, lines_due, time_compared}
 use Rattle.vcd_compare.specs.declared.comparing.Comparison.{Comparison}
 use Rattle.vcd_compare.specs.declared.comparing.Watched.{Watched}
@@ -34,9 +34,9 @@ pub record SameRun (run run' : Run) : Type 0 where
 
 -- some line is due at the time that is compared
 abbrev pub is_due_now : Watched → Comparison → Bool
-is_due_now w c = nat_lt 0 w.differing && nat_le w.at c.current.asked.to
+is_due_now w c = nat_le w.at c.current.asked.to && some_differ c w.at
 
--- what the flag of a class becomes once its line was written
+-- what the mark of a class becomes once its line was written
 abbrev pub flag_after : ModelExtent → ℕ
 flag_after e = cond (is_always e) 0 2
 
@@ -45,10 +45,10 @@ abbrev pub PutsDue : HeadView → Run → (out out' : Device) → Result Bool Wr
 PutsDue v run out out' result = (h : Header) (exceptions : List (List ℕ)) (ns : List Names) (items : List BodyItem) → IsViewOf v h → Compares h exceptions ns items run.comparison run.watched
     → Takes out out' (lines_due (model_asked run.comparison.current.asked exceptions) h ns items) result
 
--- if some line was due, the flags are settled; otherwise nothing changes
+-- if some line was due, the marks are settled; otherwise nothing changes
 abbrev pub LeavesDue : Bool → Run → Run → Type 0
 LeavesDue false run run' = run' ≡ run
-LeavesDue true run run' = (count : ℕ) × Settles (flag_after (model_extent run.comparison.current.asked.extent)) run.comparison run'.comparison count
+LeavesDue true run run' = (count : ℕ) × Settles run.watched.at (flag_after (model_extent run.comparison.current.asked.extent)) run.comparison run'.comparison count
     × (run'.watched ≡ run.watched) × (run'.differs ≡ run.differs)
 
 -- the lines that a timestamp of this time settles

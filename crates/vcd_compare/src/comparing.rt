@@ -1,33 +1,28 @@
 //! The comparison between two items of a body.
-ghost use Rattle.std.specs.Prelude.{◌≡◌, ◌≢◌, ◌<◌, ℕ, List, Some, length, slice_get, unwrap_or};
+ghost use Rattle.std.specs.Prelude.{◌≡◌, ◌≢◌, ℕ, Some, length, slice_get, unwrap_or};
 ghost use Rattle.vcd_body.specs.Ahead.{HasBits};
 ghost use Rattle.vcd_body.specs.Given.{HasGoodText};
 ghost use Rattle.vcd_body.specs.declared.item.Item.TheVariants as body_item;
-ghost use Rattle.vcd_model.specs.Compare.{Asked as ModelAsked};
-ghost use Rattle.vcd_model.specs.Declarations.{IdCode};
-ghost use Rattle.vcd_model.specs.Header.{Header};
-ghost use Rattle.vcd_model.specs.Items.{BodyItem};
-ghost use Rattle.vcd_view.specs.Views.{IsViewOf};
-ghost use Rattle.vcd_compare.specs.Comparing.{AreSkips, ComparesOn, IsCounted, IsEarlierEnd, MarksChange, SameRequest, Settles, partner};
-ghost use Rattle.vcd_compare.specs.Flags.{AreListed, differing, marked};
-ghost use Rattle.vcd_compare.specs.Rows.{HaveRows};
+ghost use Rattle.vcd_compare.specs.Comparing.{AreSkips, ComparesOn, Drops, IsEarlierEnd, CanGoOn, SameRequest, Settles, Touches, some_differ};
+ghost use Rattle.vcd_compare.specs.Touched.{IsListed};
+ghost use Rattle.vcd_compare.specs.declared.comparing.Watched.{Watched};
 
 use crate::current::{Current, note_trigger};
-use crate::flags::{Flags, is_done, mark};
-use crate::pairs::End;
+use crate::pairs::{End, Pairs};
 use crate::rows::{Links, put_at, take_due};
+use crate::touched::{Touched, is_done, take_mark};
 use crate::variables::number_at;
 use vcd_body::{Bits, Item, Regs, ScannedItem, Visit, set_shortest};
 use vcd_run::sort_front;
 use vcd_text::{Sink, WriteFailed};
 use vcd_view::{Code, HeadView};
 
-/// What a comparison keeps between two items: the current states, the flags of the classes, where
+/// What a comparison keeps between two items: the current states, which classes are touched, where
 /// their rows are, and room for the rows that have a line due.
 #[derive(Drop)]
 pub(crate) struct Comparison<'p, 'r> {
     pub current: Current<'p, 'r>,
-    pub flags: Flags<'r>,
+    pub touched: Touched<'r>,
     pub links: Links<'r>,
     pub due: &'r mut [usize],
     /// For each end how much lower than its `earlier` the next end is that is still of use.
@@ -40,16 +35,6 @@ pub(crate) struct Watched {
     /// The time at which values are compared next: that of the last timestamp, or the first time
     /// that is asked for if that is greater.
     pub at: u64,
-    /// How many flags are 1.
-    pub differing: usize,
-}
-
-/// Returns the index of the other end of the class of the end at this index.
-#[inline(always)]
-fn partner_of(index: usize) -> usize
-    ensures { result ≡ partner index }
-{
-    if index % 2 == 0 { index + 1 } else { index - 1 }
 }
 
 /// Returns the end at this index; `None` if there is no such index.
@@ -73,18 +58,18 @@ fn last_end(last: &[usize], code: usize) -> usize
 // Without this the time would grow with the changes of a code times the classes that it is in. It
 // is not inlined since most codes have one end: that costs 4 % of the instructions of a comparison.
 #[inline(never)]
-fn earlier_end(ends: &[End], flags: &mut [u8], skips: &mut [usize], index: usize, end: End) -> usize
-    ensures same { flags.new ≡ flags.old }
-    ensures next { AreSkips ends.now flags.old skips.old → slice_get ends.now index ≡ Some end
-        → IsEarlierEnd ends.now flags.old index end.code result }
-    ensures skips { AreSkips ends.now flags.old skips.old → slice_get ends.now index ≡ Some end
-        → AreSkips ends.now flags.old skips.new }
+fn earlier_end(ends: &[End], marks: &mut [u8], skips: &mut [usize], index: usize, end: End) -> usize
+    ensures same { marks.new ≡ marks.old }
+    ensures next { AreSkips ends.now marks.old skips.old → slice_get ends.now index ≡ Some end
+        → IsEarlierEnd ends.now marks.old index end.code result }
+    ensures skips { AreSkips ends.now marks.old skips.old → slice_get ends.now index ≡ Some end
+        → AreSkips ends.now marks.old skips.new }
 {
     let next = end.earlier.saturating_sub(number_at(skips, index));
     let Some(before) = next.checked_sub(1) else {
         return 0;
     };
-    if !is_done(flags, before / 2) {
+    if !is_done(marks, before / 2) {
         return next;
     }
     let Some(done) = end_at(ends, before) else {
@@ -95,103 +80,98 @@ fn earlier_end(ends: &[End], flags: &mut [u8], skips: &mut [usize], index: usize
     further
 }
 
-/// Sets the flags of all classes of the code at index `code`, which is declared so and has just got
-/// a new value, but of those that have had their only line. `at` is the time at which values are
-/// compared next, and `count` is how many flags are 1; returns how many are after it.
+/// Touches all classes of the code at index `code`, but those that have had their only line.
 #[inline(always)]
-fn mark_ends(
-    current: &Current<'_, '_>,
-    flags: &mut Flags<'_>,
-    skips: &mut [usize],
-    view: HeadView<'_>,
-    code: usize,
-    declared: Code,
-    at: u64,
-    count: usize,
-) -> usize
-    requires declared { slice_get view.codes.now code ≡ Some declared }
-    requires count { count ≡ differing flags.old.bytes.now }
-    requires listed { AreListed flags.old.bytes.now flags.old.classes.now flags.old.listed }
-    ensures count { result ≡ differing flags.new.bytes.now }
-    ensures listed { AreListed flags.new.bytes.now flags.new.classes.now flags.new.listed }
-    ensures many { length flags.new.bytes.now ≡ length flags.old.bytes.now }
-    ensures marks { MarksChange view.entry current.now code at
-        flags.old.bytes.now flags.new.bytes.now skips.old skips.new }
+fn touch(pairs: &Pairs, touched: &mut Touched<'_>, skips: &mut [usize], code: usize)
+    requires { IsListed touched.old }
+    ensures listed { IsListed touched.new }
+    ensures many { length touched.new.marks.now ≡ length touched.old.marks.now }
+    ensures touches { Touches pairs.now code touched.old.marks.now touched.new.marks.now
+        skips.old skips.new }
 {
-    let mut count = count;
-    let mut left = last_end(&current.pairs.last, code);
+    let mut left = last_end(&pairs.last, code);
     'ends: while let Some(index) = left.checked_sub(1) {
-        let Some(end) = end_at(&current.pairs.ends, index) else {
-            return count;
+        let Some(end) = end_at(&pairs.ends, index) else {
+            return;
         };
-        let Some(other) = end_at(&current.pairs.ends, partner_of(index)) else {
-            return count;
-        };
-        let differs = current.differs(view, code, declared, other.code, index % 2 == 0, at);
-        count = mark(flags, index / 2, differs, count);
+        touched.add(index / 2);
         if end.earlier == 0 {
-            return count;
+            return;
         }
-        left = earlier_end(&current.pairs.ends, flags.bytes, skips, index, end).min(index);
+        left = earlier_end(&pairs.ends, touched.marks, skips, index, end).min(index);
     }
-    count
 }
 
 impl Comparison<'_, '_> {
-    /// Handles an item that is no timestamp: sets the value of a change, compares it with those of
-    /// its counterparts, and returns how many flags are 1 after it. Any other item changes nothing.
-    /// `regs` are the registers, `text` is the text of a change, and `bits` its digits as a number,
-    /// if that is known.
+    /// Handles an item that is no timestamp: sets the value of a change, and touches the classes of
+    /// its code. Any other item changes nothing. `regs` are the registers, `text` is the text of a
+    /// change, and `bits` its digits as a number, if that is known.
     #[inline(always)]
     pub(crate) fn take(
         &mut self,
-        watched: Watched,
         view: HeadView<'_>,
         regs: Regs,
         item: Item,
         text: &[u8],
         bits: Option<Bits>,
-    ) -> usize
-        requires counted { IsCounted watched self.old }
+    )
+        requires ready { CanGoOn self.old }
         requires sound { HasGoodText view.codes.now text.now item }
         requires bits { HasBits item text.now bits }
         requires other { (time : ℕ) → item ≡ body_item.Time time → ⊥ }
-        ensures counted { IsCounted (record watched { differing = result }) self.new }
+        ensures ready { CanGoOn self.new }
         ensures same { SameRequest self.old self.new }
-        ensures on { ComparesOn view.entry text.now item regs self.old self.new watched
-            (record watched { differing = result }) }
+        ensures on { (w : Watched) → ComparesOn view.entry text.now item regs self.old self.new w w }
     {
         let Item::Change { code, .. } = item else {
-            return watched.differing;
+            return;
         };
         set_shortest(&mut self.current.table, item, text, bits);
         let Some(declared) = view.code_at(code) else {
-            return watched.differing;
+            return;
         };
         note_trigger(self.current.triggers, code, declared, regs);
-        mark_ends(
-            &self.current,
-            &mut self.flags,
-            self.skips,
-            view,
-            code,
-            declared,
-            watched.at,
-            watched.differing,
-        )
+        touch(self.current.pairs, &mut self.touched, self.skips, code);
     }
 
-    /// Finds the rows of the pairs that have a line due, in order, and sets the flags of their
-    /// classes to `after`. Returns how many rows there are.
-    pub(crate) fn settle(&mut self, after: u8) -> usize
-        requires after { after ≢ 1 }
-        requires listed { AreListed self.old.flags.bytes.now self.old.flags.classes.now
-            self.old.flags.listed }
-        requires rows { HaveRows self.old.current.pairs.now.rows.items self.old.flags
-            self.old.links self.old.due.now }
-        ensures { Settles after self.old self.new result }
+    /// Returns whether the codes of some class that is touched do not match at this time.
+    #[inline(always)]
+    pub(crate) fn some_differ(&self, at: u64) -> bool
+        requires { CanGoOn self.now }
+        ensures { result ≡ some_differ self.now at }
     {
-        let count = take_due(&mut self.flags, after, &self.links, self.due);
+        for index in 0..self.touched.candidates() {
+            let class = self.touched.candidate(index);
+            if self.touched.is_touched(class) && self.current.differs(class, at) {
+                return true;
+            }
+        }
+        false
+    }
+
+    /// Sets the mark of each class that is touched to 0 if its codes match at this time.
+    fn drop_same(&mut self, at: u64)
+        requires { CanGoOn self.old }
+        ensures drops { Drops at self.old self.new }
+    {
+        for index in 0..self.touched.candidates() {
+            let class = self.touched.candidate(index);
+            if !self.current.differs(class, at) {
+                take_mark(self.touched.marks, class, 0);
+            }
+        }
+    }
+
+    /// Finds the rows of the pairs that have a line due at this time, in order, and sets the marks
+    /// of their classes to `after`. No class is touched after it. Returns how many rows there are.
+    pub(crate) fn settle(&mut self, at: u64, after: u8) -> usize
+        requires after { after ≢ 1 }
+        requires ready { CanGoOn self.old }
+        ensures ready { CanGoOn self.new }
+        ensures settles { Settles at after self.old self.new result }
+    {
+        self.drop_same(at);
+        let count = take_due(&mut self.touched, after, &self.links, self.due);
         sort_front(self.due, count);
         count
     }
@@ -199,9 +179,9 @@ impl Comparison<'_, '_> {
 
 impl<'p, 'r> Visit<Comparison<'p, 'r>> for Watched {
     ghost use Rattle.std.specs.Prelude.{false};
-    ghost use Rattle.vcd_compare.specs.Comparing.{ComparesOne, IsCounted, stops_before};
+    ghost use Rattle.vcd_compare.specs.Comparing.{ComparesOne, CanGoOn, stops_before};
 
-    ghost stands = { λ watched comparison _ _. IsCounted watched comparison };
+    ghost stands = { λ _ comparison _ _. CanGoOn comparison };
 
     ghost takes = { λ view s t result. ComparesOne view s t result };
 
@@ -213,7 +193,7 @@ impl<'p, 'r> Visit<Comparison<'p, 'r>> for Watched {
     /// due.
     #[inline(always)]
     fn ends_before(&self, comparison: &Comparison<'p, 'r>, time: u64) -> bool {
-        comparison.current.asked.to < time || (0 < self.differing && self.at < time)
+        comparison.current.asked.to < time || (self.at < time && comparison.some_differ(self.at))
     }
 
     /// Returns false: only `ends_before` ends such a walk.
@@ -224,21 +204,25 @@ impl<'p, 'r> Visit<Comparison<'p, 'r>> for Watched {
         false
     }
 
-    /// Goes on to this time, if it is greater.
+    /// Goes on to this time, if it is greater: no class is touched then.
     #[inline(always)]
     fn take_timestamp(
         &mut self,
-        _comparison: &mut Comparison<'p, 'r>,
+        comparison: &mut Comparison<'p, 'r>,
         _view: HeadView<'_>,
         _regs: Regs,
         time: u64,
         _timestamp: ScannedItem<'_>,
     ) {
-        self.at = self.at.max(time);
+        if time <= self.at {
+            return;
+        }
+        comparison.touched.clear();
+        self.at = time;
     }
 
-    /// Sets the value of the change, and compares it with those of its counterparts. It writes
-    /// nothing, and never fails.
+    /// Sets the value of the change, and touches the classes of its code. It writes nothing, and
+    /// never fails.
     #[inline(always)]
     fn take_change<W: Sink>(
         &mut self,
@@ -248,7 +232,7 @@ impl<'p, 'r> Visit<Comparison<'p, 'r>> for Watched {
         change: ScannedItem<'_>,
         _out: &mut W,
     ) -> Result<(), WriteFailed> {
-        self.differing = comparison.take(*self, view, regs, change.item, change.text, change.bits);
+        comparison.take(view, regs, change.item, change.text, change.bits);
         Ok(())
     }
 

@@ -1,12 +1,7 @@
 //! The current states of all codes.
-ghost use Rattle.std.specs.Prelude.{◌≡◌, ◌≤◌, ℕ, List, Option, Some, MatchOption, slice_get};
-ghost use Rattle.vcd_model.specs.Declarations.{IdCode};
-ghost use Rattle.vcd_model.specs.Header.{Header};
-ghost use Rattle.vcd_model.specs.Items.{BodyItem, time_after};
-ghost use Rattle.vcd_view.specs.Views.{IsViewOf};
-ghost use Rattle.vcd_compare.specs.Asked.{rule_of};
-ghost use Rattle.vcd_compare.specs.Comparing.{AreCodes, AreCurrent, TellsSame, differ_from, is_last, triggers_with};
-ghost use Rattle.vcd_compare.specs.Lines.{codes_differ};
+ghost use Rattle.std.specs.Prelude.{◌≡◌, Some, slice_get};
+ghost use Rattle.vcd_body.specs.Names.{IsLaidOut};
+ghost use Rattle.vcd_compare.specs.Comparing.{differs_now, is_triggered_last, triggers_with, values_differ};
 
 use crate::asked::Asked;
 use crate::pairs::Pairs;
@@ -18,6 +13,7 @@ use vcd_view::{Code, HeadView};
 /// triggered last outside sections.
 #[derive(Drop)]
 pub(crate) struct Current<'p, 'r> {
+    pub view: HeadView<'p>,
     pub pairs: &'p Pairs,
     pub asked: Asked,
     pub table: Table<'r>,
@@ -37,9 +33,9 @@ pub(crate) fn note_trigger(triggers: &mut [Option<u64>], code: usize, declared: 
 
 impl Current<'_, '_> {
     /// Returns whether the event at index `code` of the codes was triggered last at this time.
+    #[inline(always)]
     pub(crate) fn is_triggered(&self, code: usize, at: u64) -> bool
-        ensures { (last : Option ℕ) → slice_get self.now.triggers.now code ≡ Some last
-            → result ≡ is_last last at }
+        ensures { result ≡ is_triggered_last self.now code at }
     {
         match self.triggers.get(code) {
             Some(Some(time)) => *time == at,
@@ -47,70 +43,43 @@ impl Current<'_, '_> {
         }
     }
 
-    /// Returns whether the states of the codes at these indexes do not match at this time, which is
-    /// not before the last timestamp. Both are events, or neither is.
-    #[cold]
-    #[inline(never)]
-    fn differ(&self, view: HeadView<'_>, one: usize, other: usize, at: u64) -> bool
-        ensures { (h : Header) (items : List BodyItem) (a b : IdCode) → IsViewOf view.entry h
-            → AreCurrent self.now h items → AreCodes h one other a b → time_after items ≤ at
-            → result ≡ codes_differ (rule_of self.now.asked) items a b at }
-    {
-        if view.is_event(one) {
-            return self.is_triggered(one, at) != self.is_triggered(other, at);
-        }
-        !values_match(&self.table, view, self.asked, one, other)
-    }
-
-    /// Returns whether the code at index `code`, which is declared so, has the same value as the
-    /// code at index `other`. `None` if the codes have not the same size, and if they are events.
+    /// Returns whether the values of the codes at these indexes, which are declared so, do not
+    /// match.
+    // Nearly all values are the same, in slots of the table, and this is seen first.
     #[inline(always)]
-    fn are_same(
-        &self,
-        view: HeadView<'_>,
-        code: usize,
-        declared: Code,
-        other: usize,
-    ) -> Option<bool>
-        requires declared { slice_get view.codes.now code ≡ Some declared }
-        ensures { (h : Header) (items : List BodyItem) (a b : IdCode) → IsViewOf view.entry h
-            → AreCurrent self.now h items → AreCodes h code other a b
-            → TellsSame items a b result }
+    fn values_differ(&self, one: usize, other: usize, code: Code, its: Code) -> bool
+        requires laid { IsLaidOut self.now.table }
+        requires one { slice_get self.now.view.codes.now one ≡ Some code }
+        requires other { slice_get self.now.view.codes.now other ≡ Some its }
+        ensures { result ≡ values_differ self.now one other }
     {
-        if declared.event || declared.size != view.code_at(other)?.size {
-            return None;
-        }
-        Some(self.table.same_value(code, other, declared.size))
-    }
-
-    /// Returns whether the states of the code at index `code`, which is declared so, and of the
-    /// code at index `other` do not match at this time, which is not before the last timestamp.
-    /// `is_first` says whether the first code is that of the first variable of the two. Both are
-    /// events, or neither is.
-    #[inline(always)]
-    pub(crate) fn differs(
-        &self,
-        view: HeadView<'_>,
-        code: usize,
-        declared: Code,
-        other: usize,
-        is_first: bool,
-        at: u64,
-    ) -> bool
-        requires declared { slice_get view.codes.now code ≡ Some declared }
-        ensures { (h : Header) (items : List BodyItem) (a b : IdCode) → IsViewOf view.entry h
-            → AreCurrent self.now h items → AreCodes h code other a b → time_after items ≤ at
-            → result ≡ differ_from is_first (rule_of self.now.asked) items a b at }
-    {
-        if let Some(same) = self.are_same(view, code, declared, other) {
+        if code.size == its.size {
+            let same = self.table.same_value(one, other, code.size);
             if same || !(self.asked.x_of_one || self.asked.x_of_other) {
                 return !same;
             }
         }
-        if is_first {
-            self.differ(view, code, other, at)
-        } else {
-            self.differ(view, other, code, at)
+        !values_match(&self.table, self.view, self.asked, one, other)
+    }
+
+    /// Returns whether the states of the two codes of a class do not match at this time.
+    #[inline(always)]
+    pub(crate) fn differs(&self, class: usize, at: u64) -> bool
+        requires laid { IsLaidOut self.now.table }
+        ensures { result ≡ differs_now self.now class at }
+    {
+        let Some((one, other)) = self.pairs.codes_of(class) else {
+            return false;
+        };
+        let Some(code) = self.view.code_at(one) else {
+            return false;
+        };
+        let Some(its) = self.view.code_at(other) else {
+            return false;
+        };
+        if code.event {
+            return self.is_triggered(one, at) != self.is_triggered(other, at);
         }
+        self.values_differ(one, other, code, its)
     }
 }

@@ -14,7 +14,7 @@
 //! - `counterparts`, `kinds`: what a variable is compared with, and whether it is of the same kind
 //! - `pairs`: `Pairs`, `pairs_of`
 //! - `current`, `values`: the current states of all codes, and whether two of them match
-//! - `flags`: a flag for each two codes that are compared; `rows`: the pairs that have a line due
+//! - `touched`: which two codes may have a line due; `rows`: the pairs that have one
 //! - `comparing`: what an item changes; the visit of the walk over the items ahead
 //! - `lines`: how the lines are written
 //! - `whole`: `compare`, `Room`, `Answer`
@@ -25,7 +25,6 @@ mod asked;
 mod comparing;
 mod counterparts;
 mod current;
-mod flags;
 mod kinds;
 pub mod laws;
 mod lines;
@@ -35,6 +34,7 @@ mod paths;
 mod rows;
 mod selected;
 mod slices;
+mod touched;
 mod unselected;
 mod values;
 mod variables;

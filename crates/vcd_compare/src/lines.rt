@@ -52,17 +52,6 @@ fn put_state<W: Sink>(
     }
 }
 
-/// Returns the indexes of the two codes of a class; `None` if there is no such class.
-fn codes_of(pairs: &Pairs, class: usize) -> Option<(usize, usize)>
-    ensures { (h : Header) (p : Pair) → IsClassOf h pairs.now.ends.items class p
-        → IsSomeAnd result (λ codes. HasCodes h codes p) }
-{
-    let first = class.saturating_mul(2);
-    let one = pairs.ends.get(first)?;
-    let other = pairs.ends.get(first.saturating_add(1))?;
-    Some((one.code, other.code))
-}
-
 /// Writes the states of the two codes of a class at this time, which is not before the last
 /// timestamp, with a blank between, and ends the line. Fails if a write does.
 fn put_states<W: Sink>(
@@ -76,7 +65,7 @@ fn put_states<W: Sink>(
     ensures { PutsWhere W.device out.old out.new result (λ takes.
         AtClass view.entry current.now class time (λ items p. takes (states_of items p time))) }
 {
-    let Some((one, other)) = codes_of(current.pairs, class) else {
+    let Some((one, other)) = current.pairs.codes_of(class) else {
         return Ok(());
     };
     put_state(current, view, one, time, out)?;

@@ -9,7 +9,7 @@ ghost use Rattle.vcd_view.specs.Views.{IsViewOf};
 ghost use Rattle.vcd_compare.specs.Classes.{AddsEnd, EntersClass, HasClasses};
 ghost use Rattle.vcd_compare.specs.Counterparts.{AreSelected, FindPlaces, IsNth, place_of, selected_in};
 ghost use Rattle.vcd_compare.specs.Paths.{HasTexts};
-ghost use Rattle.vcd_compare.specs.Pairs.{AreFew, ArePairs, IsNamedAt, IsShownAt, names_in};
+ghost use Rattle.vcd_compare.specs.Pairs.{AreFew, ArePairs, IsNamedAt, IsShownAt, codes_of, names_in};
 ghost use Rattle.vcd_compare.specs.Unselected.{IsFaultOf};
 ghost use Rattle.vcd_compare.specs.HasPairs.{AreNumbersOf, EntersNames, EntersTexts, HasPairs, HasSelected, IsNumbered, alone_at, compared_at, compared_of, unlike_at, unlike_of};
 
@@ -74,6 +74,19 @@ pub struct Pairs {
     pub(crate) alone_other: Vec<usize>,
     // The variables whose counterpart is of another kind.
     pub(crate) unlike: Vec<UnlikeRows>,
+}
+
+impl Pairs {
+    /// Returns the indexes of the two codes of a class; `None` if there is no such class.
+    #[inline(always)]
+    pub(crate) fn codes_of(&self, class: usize) -> Option<(usize, usize)>
+        ensures { result ≡ codes_of self.now.ends.items class }
+    {
+        let first = class.saturating_mul(2);
+        let one = self.ends.get(first)?;
+        let other = self.ends.get(first.saturating_add(1))?;
+        Some((one.code, other.code))
+    }
 }
 
 // Names and the variables of a header, by the numbers of their paths.

@@ -1,10 +1,10 @@
 //! The rows of each class, and those of the pairs that have a line due.
 ghost use Rattle.std.specs.Prelude.{◌≡◌, ◌≢◌, ◌<◌, ◌≤◌, ◌==◌, ◌&&◌, ◌||◌, ℕ, Bool, List, Some, false, get_or, length, set, slice_get};
-ghost use Rattle.vcd_compare.specs.Flags.{AreListed, settled_as};
+ghost use Rattle.vcd_compare.specs.Touched.{IsListed, settled_as};
 ghost use Rattle.vcd_compare.specs.Rows.{AreDue, AreLinkedRows, classes_of, is_flagged, is_of};
 
-use crate::flags::{Flags, take_flag};
 use crate::pairs::PairRow;
+use crate::touched::{Touched, take_mark};
 use crate::variables::number_at;
 
 /// Where the rows of each class are.
@@ -87,40 +87,36 @@ fn put_class(
     count
 }
 
-/// Puts the rows of the classes whose flag is 1 into `due`, and sets these flags to `after`.
+/// Puts the rows of the classes whose mark is 1 into `due`, and sets these marks to `after`.
 /// Returns how many rows there are.
-// It looks at all classes only if more were listed than there are classes. So the time grows with
+// It looks at all classes only if more were listed than there is room for. So the time grows with
 // the changes and the lines: a look at all of them at each time that has lines is quadratic.
 pub(crate) fn take_due(
-    flags: &mut Flags<'_>,
+    touched: &mut Touched<'_>,
     after: u8,
     links: &Links<'_>,
     due: &mut [usize],
 ) -> usize
     requires after { after ≢ 1 }
-    requires listed { AreListed flags.old.bytes.now flags.old.classes.now flags.old.listed }
-    ensures many { length flags.new.bytes.now ≡ length flags.old.bytes.now }
-    ensures settled { (k : ℕ) → get_or flags.new.bytes.now k 0
-        ≡ settled_as after (get_or flags.old.bytes.now k 0) }
+    requires listed { IsListed touched.old }
+    ensures many { length touched.new.marks.now ≡ length touched.old.marks.now }
+    ensures settled { (k : ℕ) → get_or touched.new.marks.now k 0
+        ≡ settled_as after (get_or touched.old.marks.now k 0) }
+    ensures listed { IsListed touched.new }
     ensures due { (classes : List ℕ)
         → AreLinkedRows classes (length classes) links.now.last.now links.now.earlier.now
-        → length flags.old.bytes.now ≤ length links.now.last.now
+        → length touched.old.marks.now ≤ length links.now.last.now
         → length classes ≤ length due.old
-        → AreDue due.new result (is_flagged flags.old.bytes.now classes) }
+        → AreDue due.new result (is_flagged touched.old.marks.now classes) }
     ensures len { length due.new ≡ length due.old }
 {
-    let fits = flags.listed <= flags.classes.len();
-    let many = if fits {
-        flags.listed
-    } else {
-        flags.bytes.len()
-    };
     let mut count = 0;
-    for index in 0..many {
-        let class = if fits { flags.classes[index] } else { index };
-        if take_flag(flags.bytes, class, after) {
+    for index in 0..touched.candidates() {
+        let class = touched.candidate(index);
+        if take_mark(touched.marks, class, after) {
             count = put_class(links.last, links.earlier, class, due, count);
         }
     }
+    touched.listed = 0;
     count
 }

@@ -13,17 +13,17 @@ ghost use Rattle.vcd_text.specs.Device.{Counts};
 ghost use Rattle.vcd_text.specs.Feed.{HasGiven, chunk_len_of, limit_of, seen, source_of, supply_of};
 ghost use Rattle.vcd_view.specs.Views.{IsViewOf};
 ghost use Rattle.vcd_compare.specs.Asked.{model_asked, model_extent};
-ghost use Rattle.vcd_compare.specs.Comparing.{IsCounted};
+ghost use Rattle.vcd_compare.specs.Comparing.{CanGoOn};
 ghost use Rattle.vcd_compare.specs.Pairs.{ArePairs};
 ghost use Rattle.vcd_compare.specs.Run.{Answers, HasHandled, LeavesDue, PutsDue, RunStands, SameRun, TakesTime, Tells, done_of, flag_after, is_due_now, plan_within};
 
 use crate::asked::{Asked, Extent};
 use crate::comparing::{Comparison, Watched};
 use crate::current::Current;
-use crate::flags::Flags;
 use crate::lines::{has_header_lines, put_header_lines, put_lines};
 use crate::pairs::Pairs;
 use crate::rows::Links;
+use crate::touched::Touched;
 use vcd_body::{Done, Item, Regs, Share, Slot, Stop, Table, walk_ahead};
 use vcd_run::{AheadEnd, Task, run_to_end};
 use vcd_text::{Ahead, Feed, Sink, Source, WriteFailed};
@@ -101,7 +101,7 @@ pub(crate) struct Run<'p, 'r> {
 
 impl<'p, 'r> Run<'p, 'r> {
     /// Returns a run before the first item of a body. `room` has the lengths that its comments say.
-    fn new(view: HeadView<'_>, room: Room<'r>, pairs: &'p Pairs, asked: Asked) -> Run<'p, 'r>
+    fn new(view: HeadView<'p>, room: Room<'r>, pairs: &'p Pairs, asked: Asked) -> Run<'p, 'r>
         requires values { table_bytes view ≤ length room.values.now }
         requires slots { length view.codes.now ≤ length room.slots.now }
         requires shares { length view.codes.now ≤ length room.shares.now }
@@ -115,18 +115,19 @@ impl<'p, 'r> Run<'p, 'r> {
             → IsViewOf view.entry h → ArePairs pairs.now h (model_asked asked exceptions) ns
             → RunStands h exceptions ns [] result }
         ensures asked { result.comparison.current.asked ≡ asked }
-        ensures counted { IsCounted result.watched result.comparison }
+        ensures ready { CanGoOn result.comparison }
     {
         Run {
             comparison: Comparison {
                 current: Current {
+                    view,
                     pairs,
                     asked,
                     table: Table::new(view, room.values, room.slots, room.shares),
                     triggers: room.triggers,
                 },
-                flags: Flags {
-                    bytes: room.flags,
+                touched: Touched {
+                    marks: room.flags,
                     classes: room.classes,
                     listed: 0,
                 },
@@ -134,17 +135,14 @@ impl<'p, 'r> Run<'p, 'r> {
                 due: room.due,
                 skips: room.skips,
             },
-            watched: Watched {
-                at: asked.from,
-                differing: 0,
-            },
+            watched: Watched { at: asked.from },
             differs: has_header_lines(pairs),
             last: 0,
         }
     }
 }
 
-/// Returns what the flag of a class becomes once its line was written.
+/// Returns what the mark of a class becomes once its line was written.
 fn flag_after(extent: Extent) -> u8
     ensures { result ≡ flag_after (model_extent extent) }
 {
@@ -157,20 +155,23 @@ fn flag_after(extent: Extent) -> u8
 impl Run<'_, '_> {
     /// Returns whether some line is due at the time at which values were compared.
     fn is_due(&self) -> bool
+        requires { CanGoOn self.now.comparison }
         ensures { result ≡ is_due_now self.now.watched self.now.comparison }
     {
-        0 < self.watched.differing && self.watched.at <= self.comparison.current.asked.to
+        let at = self.watched.at;
+        at <= self.comparison.current.asked.to && self.comparison.some_differ(at)
     }
 
-    /// Writes the lines that are due at the time at which values were compared, settles the flags
-    /// of their classes, and returns whether there are some. Fails if a write does.
+    /// Writes the lines that are due at the time at which values are compared, and returns whether
+    /// there are some. Then no class is touched any more. Fails if a write does.
     fn put_due<W: Sink>(&mut self, view: HeadView<'_>, out: &mut W) -> Result<bool, WriteFailed>
         requires failures { (W.device out.old).failures < 2 ^ 64 - 1 }
-        requires counted { IsCounted self.old.watched self.old.comparison }
+        requires ready { CanGoOn self.old.comparison }
         ensures puts { PutsDue view.entry self.old (W.device out.old) (W.device out.new) result }
         ensures tells { IfOk result
             (λ some. some ≡ is_due_now self.old.watched self.old.comparison) }
         ensures settles { IfOk result (λ some. LeavesDue some self.old self.new) }
+        ensures ready { IfOk result (λ _. CanGoOn self.new.comparison) }
         ensures same { SameRun self.old self.new }
         ensures counts { Counts (W.device out.old) (W.device out.new) result }
     {
@@ -179,7 +180,7 @@ impl Run<'_, '_> {
         }
         let at = self.watched.at;
         let after = flag_after(self.comparison.current.asked.extent);
-        let count = self.comparison.settle(after);
+        let count = self.comparison.settle(at, after);
         put_lines(&self.comparison, view, count, at, out)?;
         Ok(true)
     }
@@ -193,12 +194,11 @@ impl Run<'_, '_> {
         out: &mut W,
     ) -> Result<bool, WriteFailed>
         requires failures { (W.device out.old).failures < 2 ^ 64 - 1 }
-        requires counted { IsCounted self.old.watched self.old.comparison }
+        requires ready { CanGoOn self.old.comparison }
         ensures takes { TakesTime view.entry time self.old self.new
             (W.device out.old) (W.device out.new) result }
         ensures counts { Counts (W.device out.old) (W.device out.new) result }
-        ensures counted { IfOk result
-            (λ ended. ended ≡ false → IsCounted self.new.watched self.new.comparison) }
+        ensures ready { IfOk result (λ ended. ended ≡ false → CanGoOn self.new.comparison) }
         ensures same { SameRun self.old self.new }
     {
         let is_past = self.comparison.current.asked.to < time;
@@ -206,6 +206,7 @@ impl Run<'_, '_> {
             return Ok(is_past);
         }
         if !self.put_due(view, out)? {
+            self.comparison.touched.clear();
             self.watched.at = time;
             return Ok(is_past);
         }
@@ -213,10 +214,7 @@ impl Run<'_, '_> {
         if let Extent::First = self.comparison.current.asked.extent {
             return Ok(true);
         }
-        self.watched = Watched {
-            at: time,
-            differing: 0,
-        };
+        self.watched.at = time;
         Ok(is_past)
     }
 }
@@ -226,7 +224,7 @@ impl Task for Run<'_, '_> {
 
     ghost tells = { λ run items text. Tells run.differs run.last items text };
 
-    ghost is_ready = { λ run. IsCounted run.watched run.comparison };
+    ghost is_ready = { λ run. CanGoOn run.comparison };
 
     ghost fixed = { λ _. tt };
 
@@ -267,9 +265,7 @@ impl Task for Run<'_, '_> {
                 self.take_time(view, time, out)
             }
             Item::Change { .. } => {
-                self.watched.differing = self
-                    .comparison
-                    .take(self.watched, view, regs, item, text, None);
+                self.comparison.take(view, regs, item, text, None);
                 Ok(false)
             }
             Item::Begin(_) | Item::End | Item::Finish => Ok(false),

@@ -11,8 +11,8 @@ returns-clause-next c = λ are there.
     let d = c.in-Some-end_at.done in
     let next : suc before ≡ e.earlier - get_or skips i 0 = omega (arith, c.in-Some.ensures.0, c.in-Some.ensures.1, c.saturating_sub-next.ensures, c.number_at.ensures) in
     let its : slice_get c.args.ends.now before ≡ Some d = sym c.in-Some-end_at.ensures in
-    let done = eqb-true (get_or c.args.flags.now (before / 2) 0) 2 (sym c.is_done.ensures ∙ c.if-not-is_done.false) in
-    next_after c.args.ends.now c.args.flags.now skips are i e there before d next its done c.saturating_sub-further.result
+    let done = eqb-true (get_or c.args.marks.now (before / 2) 0) 2 (sym c.is_done.ensures ∙ c.if-not-is_done.false) in
+    next_after c.args.ends.now c.args.marks.now skips are i e there before d next its done c.saturating_sub-further.result
     (c.saturating_sub-further.ensures ∙ ap (λ n. d.earlier - n) c.number_at-2.ensures)
 
 pub returns-clause-skips : goal.returns-clause-skips
@@ -24,7 +24,7 @@ returns-clause-skips c = λ are there.
     let d = c.in-Some-end_at.done in
     let next : suc before ≡ e.earlier - get_or skips i 0 = omega (arith, c.in-Some.ensures.0, c.in-Some.ensures.1, c.saturating_sub-next.ensures, c.number_at.ensures) in
     let its : slice_get c.args.ends.now before ≡ Some d = sym c.in-Some-end_at.ensures in
-    let done = eqb-true (get_or c.args.flags.now (before / 2) 0) 2 (sym c.is_done.ensures ∙ c.if-not-is_done.false) in
-    subst (AreSkips c.args.ends.now c.args.flags.now) (sym (c.put_at.ensures ∙ ap (λ n. set skips i n) c.saturating_sub.ensures))
-    (skips_after c.args.ends.now c.args.flags.now skips are i e there before d next its done c.saturating_sub-further.result
+    let done = eqb-true (get_or c.args.marks.now (before / 2) 0) 2 (sym c.is_done.ensures ∙ c.if-not-is_done.false) in
+    subst (AreSkips c.args.ends.now c.args.marks.now) (sym (c.put_at.ensures ∙ ap (λ n. set skips i n) c.saturating_sub.ensures))
+    (skips_after c.args.ends.now c.args.marks.now skips are i e there before d next its done c.saturating_sub-further.result
     (c.saturating_sub-further.ensures ∙ ap (λ n. d.earlier - n) c.number_at-2.ensures))

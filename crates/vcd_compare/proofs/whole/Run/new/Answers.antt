@@ -7,6 +7,6 @@ returns-clause-stands c = λ h exceptions ns views pairs.
     let q = model_asked c.args.asked exceptions in
     let held = new_holds c.args.view h _ views c.new.ensures.laid (c.new.ensures.room (room_enough c.args.view h _ views c.requires.values)) in
     record {
-      compares = compares_first c.args.view h exceptions ns _ _ views pairs held c.requires.triggers c.requires.flags c.requires.skips refl;
+      compares = compares_first c.args.view h exceptions ns _ _ views pairs held refl c.requires.triggers c.requires.flags c.requires.skips refl;
       differs = c.has_header_lines.ensures h q ns pairs ∙ ap (λ l. not (is_empty l)) (sym (open_first q h ns));
     }

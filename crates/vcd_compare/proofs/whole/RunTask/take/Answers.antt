@@ -16,9 +16,9 @@ pub returns-in-Change-clause-takes : goal.returns-in-Change-clause-takes
 returns-in-Change-clause-takes g c = λ p h items before x views known next r read few has on.
     let same : c.args.regs ≡ before = r ∙ ap (regs_after before) c.in-Change.is in
     let after : regs_after c.args.regs c.args.item ≡ c.args.regs = ap (regs_after c.args.regs) c.in-Change.is in
-    let quiet = c.take-self.ensures.on h has.exceptions has.ns items x views read (subst (AreRegsAfter items) (sym same) known)
+    let quiet = c.take.ensures.on c.args.self.now.watched h has.exceptions has.ns items x views read (subst (AreRegsAfter items) (sym same) known)
     (subst (AreRegsAfter (items ++ x ∷ [])) (sym after) next) has.stands.compares in
-    takes_quiet c.args.self.now _ p h items has c.take-self.ensures.same.asked x (g.W.Sink.device c.args.out.now) quiet.0 quiet.1 refl
+    takes_quiet c.args.self.now _ p h items has c.take.ensures.same.asked x (g.W.Sink.device c.args.out.now) quiet.0 quiet.1 refl
 
 pub returns-in-Begin-clause-takes : goal.returns-in-Begin-clause-takes
 returns-in-Begin-clause-takes g c = λ p h items before x views known next r read few has on.
