@@ -127,6 +127,21 @@ pub fn pairs_of(
         → IsFaultOf q h (names_in names.now) fault) }
 {
     let all = number_all(alloc, view, names, exceptions)?;
+    pairs_of_numbered(alloc, view, &all)
+}
+
+/// Returns the pairs that the names make of the variables of a header, both by the numbers of their
+/// paths, as `pairs_of` does.
+fn pairs_of_numbered(alloc: Global, view: HeadView<'_>, all: &Numbered) -> Result<Pairs, PairsFault>
+    requires { all.now.named < 2 ^ 63 }
+    ensures pairs { IfOk result (λ ps. (h : Header) (q : Asked) (ns : List Names)
+        → IsViewOf view.entry h → IsNumbered all.now h q ns
+        → ArePairs ps h q (outermost ns) × AreFew ps h q (outermost ns)) }
+    ensures selected { IfOk result (λ _. (h : Header) (q : Asked) (ns : List Names)
+        → IsNumbered all.now h q ns → unselected q h ns ≡ None) }
+    ensures faults { IfErr result (λ fault. (h : Header) (q : Asked) (ns : List Names)
+        → IsNumbered all.now h q ns → IsFaultOf q h ns fault) }
+{
     refuse_unselected(
         alloc,
         &all.paths,

@@ -1,5 +1,5 @@
 // The variables of a header, found by their paths and ranges.
-ghost use Rattle.std.specs.Prelude.{◌≡◌, ◌==◌, ◌<◌, ◌^◌, ℕ, suc, cond, replicate, List, Some, get_or, length, set, slice_get, take, IfOk};
+ghost use Rattle.std.specs.Prelude.{◌≡◌, ◌==◌, ◌<◌, ◌^◌, ℕ, suc, cond, replicate, List, [], Some, get_or, length, set, slice_get, take, IfOk};
 ghost use Rattle.vcd_compare.specs.Paths.{AreApart, EntersPath, HasTexts, IsNumberOf};
 ghost use Rattle.vcd_compare.specs.Variables.{AddsVariable, AreNumbered, AreVariables, Declaration, HasSome, Header, IsAround, IsViewOf, NumbersRows, path_of, used_by};
 
@@ -103,19 +103,28 @@ pub(crate) fn variables_of(
         → AreNumbered h texts numbers.now (length h.declarations) → AreApart texts
         → length texts ≡ count → AreVariables h texts vs) }
 {
-    let mut variables = Variables {
-        rows: Vec::with_capacity(alloc, view.rows.len())?,
-        paths: Vec::with_capacity(alloc, view.rows.len())?,
-        slices: Slices::new(alloc, view.seed),
-        keys: IndexSet::with_capacity_and_hasher(alloc, view.rows.len(), view.seed)?,
-        users: no_users(alloc, count + 1)?,
-    };
+    let mut variables = no_variables(alloc, view, count)?;
     let mut counts = Vec::with_capacity(alloc, view.rows.len())?;
     for row in 0..view.rows.len() {
         let path = number_at(numbers, row);
         take_row(alloc, view, &mut variables, &mut counts, row, path)?;
     }
     Ok(variables)
+}
+
+/// Returns no variables, with room for those of a header that has `count` paths.
+fn no_variables(alloc: Global, view: HeadView<'_>, count: usize) -> Result<Variables, AllocError>
+    requires { count < 2 ^ 63 }
+    ensures { IfOk result (λ vs. (h : Header) (texts : List (List ℕ)) → length texts ≡ count
+        → HasSome h texts 0 vs []) }
+{
+    Ok(Variables {
+        rows: Vec::with_capacity(alloc, view.rows.len())?,
+        paths: Vec::with_capacity(alloc, view.rows.len())?,
+        slices: Slices::new(alloc, view.seed),
+        keys: IndexSet::with_capacity_and_hasher(alloc, view.rows.len(), view.seed)?,
+        users: no_users(alloc, count + 1)?,
+    })
 }
 
 /// Returns `count` times that no variable has a path.

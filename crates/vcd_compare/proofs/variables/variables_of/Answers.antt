@@ -1,16 +1,9 @@
-use Rattle.vcd_compare.proofs.Cited.{◌≡◌, ◌+◌, [], length, get_or, replicate, take, sym, ap, subst, ◌∙◌, add-one, arith, AllZip, get_or-replicate, length-replicate, take_all, get_or_from_slice_get, path_of, there, rows_len, IsNumberOf, HasSome, HasUsers, IsKeyOf, IsNamedAt, IsPathOf, named_in}
-use Rattle.vcd_compare.specs.declared.variables.Users.TheVariants as Users
-use Rattle.vcd_compare.proofs.Facts.{some_none}
+use Rattle.vcd_compare.proofs.Cited.{[], take, sym, ap, subst, ◌∙◌, add-one, AllZip, take_all, get_or_from_slice_get, path_of, there, rows_len, IsNumberOf, HasSome, HasUsers, IsKeyOf, IsNamedAt, IsPathOf, named_in, arith}
 use Rattle.vcd_compare.proofs.variables.variables_of.Goals as goal
 
 pub loop-row-init : goal.loop-row-init
 loop-row-init c = λ h texts view are apart len.
-    let users = c.in_ok-no_users.field-0 in
-    let filled : users.items ≡ replicate (c.args.count + 1) Users.None = c.in_ok-no_users.ensures in
-    let room : length users.items ≡ c.args.count + 1 = ap length filled ∙ length-replicate (c.args.count + 1) Users.None in
-    some_none h texts _ _ c.in_ok-with_capacity.ensures.items c.in_ok-with_capacity-2.ensures.items
-    (c.new.ensures texts) c.in_ok-with_capacity_and_hasher.ensures.empty c.in_ok-counts.ensures.items (omega (arith, room, len))
-    (λ n l. ap (λ xs. get_or xs n Users.None) filled ∙ get_or-replicate (c.args.count + 1) n Users.None Users.None (omega (arith, l, room)))
+    subst (HasSome h texts 0 c.in_ok-variables.variables) (sym c.in_ok-counts.ensures.items) (c.in_ok-variables.ensures h texts len)
 
 pub loop-row-preserved : goal.loop-row-preserved
 loop-row-preserved c = λ h texts view are apart len.
