@@ -138,12 +138,17 @@ def idle(of: Asker, looks: List[Look], asked: Question, word: str = "never") -> 
     return not looks and not of.dump.times
 
 
+def late_of(facts: Dict[str, int], span: Span, of: Asker, unit: Optional[str]) -> str:
+    """Returns by how much requests are late."""
+    by = facts["latest"]
+    return "late by %s at most" % ("%d edge%s" % (by, "s" * (by != 1)) if span[0] else
+                                   of.dump.time_text(by, unit)) if facts["late"] else "late"
+
+
 def text_of(facts: Dict[str, int], span: Span, of: Asker, unit: Optional[str]) -> str:
     """Returns how many requests are late, and how many are without an answer."""
-    by = facts["latest"]
-    return "%d late%s, %d without an answer" % (facts["late"], " (by %s at most)" % (
-        "%d edge%s" % (by, "s" * (by != 1)) if span[0] else of.dump.time_text(by, unit))
-        if facts["late"] else "", facts["lost"])
+    return "%d %s, %d without an answer" % (
+        facts["late"], late_of(facts, span, of, unit), facts["lost"])
 
 
 def note_of(facts: Dict[str, int], late: str, name: str = "") -> str:
@@ -326,7 +331,7 @@ def rule_of(of: Asker, name: str, asked: Question, unit: Optional[str], is_close
                 dump.time_text(its[what][0], unit), ", .." * (len(its[what]) > 1))
                 if its[what] else "") for what, words in (
                     ("lost", "without an answer"), ("surplus", "without a request"),
-                    ("late", "late")) if its[what] or what != "late")
+                    ("late", late_of(facts, span, of, unit))) if its[what] or what != "late")
         else:
             facts = facts_of(looks, begins, after.test, span, asked.end(dump), is_closed)
             times = times_of(waits(looks, begins, after.test, span, asked.end(dump)), times,

@@ -106,11 +106,15 @@ def list_times(times: Iterable[int], text: Callable[[int], str], asked: argparse
     return count
 
 
-def late_text(one: Question, text: Callable[[int], str]) -> str:
-    """Returns how many requests got no answer in time, and by how much the latest came late."""
+def late_by(one: Question, text: Callable[[int], str]) -> str:
+    """Returns by how much the latest answer is late."""
     by = text(one.latest) if one.has_time else counted(one.latest, "edge")
-    return "%d late%s, %d without an answer" % (
-        len(one.late), " (by %s at most)" % by if one.late else "", len(one.lost))
+    return "late by %s at most" % by if one.late else "late"
+
+
+def late_text(one: Question, text: Callable[[int], str]) -> str:
+    """Returns how many requests got no answer in time."""
+    return "%d %s, %d without an answer" % (len(one.late), late_by(one, text), len(one.lost))
 
 
 def note_of(one: Question, text: Callable[[int], str]) -> str:
@@ -149,7 +153,8 @@ def line_of(one: Question, its: List[int], text: Callable[[int], str]) -> str:
     kinds = ["%d %s%s" % (len(times), what, " (%s%s)" % (
         text(times[0]), ", .." * (len(times) > 1)) if times else "") for what, times in (
             ("without an answer", [time for time, _ in one.lost]),
-            ("without a request", one.surplus), ("late", one.late)) if times or what != "late"]
+            ("without a request", one.surplus), (late_by(one, text), one.late))
+             if times or what != "late"]
     return "%s, %s%s" % (text(its[0]), counted(its[1], "time"),
                          ": " + ", ".join(kinds) if one.in_order else "")
 
@@ -211,6 +216,7 @@ def answer(asked: argparse.Namespace, tests: List[Test]) -> int:
                  else list_times((time for time, _ in asking.times()), text, asked))
         status, is_known = int((count > 0) == asked.never), count > 0
     is_whole = not (asked.first and is_known)
+    sys.stdout.flush()
     for one in asking.each if is_whole else ():
         facts = one.facts()
         is_odd = facts and (facts["open"] or facts.get("overlaps") or not facts["requests"])
@@ -222,7 +228,6 @@ def answer(asked: argparse.Namespace, tests: List[Test]) -> int:
         if why:
             raise UsageError(rule.front + why)
     if asked.rules is not None:
-        sys.stdout.flush()
         names = ", ".join(missed[:3]) + ", .." * (len(missed) > 3)
         print("vcdkit-when: %s, %s" % (
             counted(len(rules), "rule"), "not met: " + names if missed else "all met"),

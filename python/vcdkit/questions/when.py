@@ -28,11 +28,10 @@ SEVERAL = "bad condition: -> is of several times, and a row has one"
 
 
 class Asked(NamedTuple):
-    """A condition that is asked, with the name that messages have. Its clock is a path, behind a !
-    if it is looked at where that falls; that of all if it is empty. As a rule, it has a word before
-    it: it may hold at no time (never), or has to at each (always), else at some time; with each,
-    the n-th answer belongs to the n-th request, and the times without the other are listed.
-    Messages begin with its place in a file."""
+    """A condition that is asked: its name, and its place in a file, with which messages begin; its
+    clock, a path, behind a ! if it is looked at where that falls, or empty for that of all; and the
+    word before it as a rule: it may hold at no time (never), or has to at each (always), else at
+    some time. With each, the n-th answer belongs to the n-th request; those alone are listed."""
 
     name: str
     condition: str
