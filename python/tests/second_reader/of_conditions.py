@@ -6,7 +6,7 @@ from fractions import Fraction
 from typing import Any, Dict, List, NamedTuple, Optional, Tuple
 import xml.etree.ElementTree as xml
 
-from asker import Asker, Refused, Said, Skip, Window, run
+from asker import NEVER, Asker, Said, Skip, Window, run, said_by
 from conditions import Condition, Conditions, Operand, quoted
 from dumps import UNITS, Dump
 from expressions import (COUNTS, LEVEL, LEVELS, ORDERS, Expression, based, braces, chosen, counted,
@@ -169,8 +169,7 @@ def side_of(of: Asker, one: Expression) -> Tuple[Expression, bool]:
     random = of.random
     known = [lambda: one, lambda: one, lambda: read_as(random.choice(["signed", "unsigned"]), one),
              lambda: counted(random.choice(COUNTS[:1 if one.width < 2 else None]), one),
-             lambda: braces([one]),
-             lambda: unary(random.choice(["!", "+", "|", "^"]), one),
+             lambda: braces([one]), lambda: unary(random.choice(["!", "+", "|", "^"]), one),
              lambda: past(one, random.choice([1, 2]))]
     others = [lambda: joined(random.choice(["&", "+", "-", "*", "|"]), one, random.choice(
         [one, based(random), fixed("3", 3)])), lambda: unary(random.choice("~-"), one),
@@ -199,7 +198,6 @@ def ask_refused(of: Asker) -> None:
     sides = [side, number] if sign == "inside" or of.happens(.7) else [number, side]
     made = inside(side, [[number]]) if sign == "inside" else joined(sign, *sides)
     outcomes, known = set(), set()
-    looks: List[Any] = [None]
     for its in itertools.product("01xz", repeat=variable.size):
         state = {variable.code: "".join(its)}
         look = Look(0, state, set(), Look(0, state, set(), Look(0, state, set())))
@@ -215,11 +213,8 @@ def ask_refused(of: Asker) -> None:
     if side.text == name.text and not name.is_signed and "1" not in digits and ordered in (
             "<", ">="):
         is_never = True
-    is_refused = False
-    try:
-        run("when", [*of.clocks()[0], of.path, "--", made.text])
-    except Refused:
-        is_refused = True
+    said = said_by("when", [*of.clocks()[0], of.path, "--", made.text])
+    is_refused = bool(re.search(NEVER, said.message))
     if is_known or is_refused:
         of.same("refused", made.text, is_refused, is_never)
 
@@ -287,20 +282,10 @@ class Rule(NamedTuple):
     note: str
     is_idle: bool
 
-    def is_bad(self, is_never: bool) -> bool:
-        """Whether it is not met."""
-        return bool(self.times) == (is_never or self.word in ("never", "always", "each"))
-
     @property
-    def word(self) -> str:
-        """The first word."""
-        return self.text.split(" ")[0]
-
-    @property
-    def is_odd(self) -> bool:
-        """Whether there is something to say of its requests."""
-        return bool(self.facts) and (self.facts["open"] > 0 or self.facts["requests"] == 0
-                                     or self.facts.get("overlaps", 0) > 0)
+    def has_word(self) -> bool:
+        """Whether it may hold at no time."""
+        return self.text.split(" ")[0] in ("never", "always", "each")
 
 
 def rule_of(of: Asker, name: str, asked: Question, unit: Optional[str], is_closed: bool) -> Rule:
@@ -370,7 +355,7 @@ def ask_rules(of: Asker) -> None:
                       if is_json else "%s: %s, %d time%s%s" % (
                           one.name, dump.time_text(begin or 0, unit), len(one.times),
                           "s" * (len(one.times) != 1), one.line))
-    bad = [one.name for one in rules if one.is_bad(is_never)]
+    bad = [one.name for one in rules if bool(one.times) == (is_never or one.has_word)]
     root = xml.parse(junit).getroot() if "--junit" in words else []
     of_kind = {kind: [one.get("name") for one in root if one.find(kind) is not None]
                for kind in ("failure", "skipped", "error")}
@@ -380,10 +365,11 @@ def ask_rules(of: Asker) -> None:
         of.same("rules, the report of a fault", words, passed, set())
         return
     idle_ones = [one.name for one in rules if one.is_idle and not one.times and (
-        is_never or one.word in ("never", "always", "each"))]
+        is_never or one.has_word)]
     warnings, _, end = said.message.partition("vcdkit-when: %d rule%s, " % (
         len(rules), "s" * (len(rules) > 1)))
-    odd = [one.note for one in rules if one.is_odd]
+    odd = [one.note for one in rules if one.facts and (
+        one.facts["open"] or not one.facts["requests"] or one.facts.get("overlaps"))]
     of.same("rules", [*words, text], (
         said.status, got, warnings.count("\n"), [one for one in odd if one not in warnings], end), (
             2 if idle_ones else int(bool(bad)), wanted,

@@ -1,14 +1,9 @@
 """What a side of a comparison can be, as far as its known digits and its kind say that; an x stands
 for any digit. A comparison with a number that it never is can be refused."""
 import math
-import operator
-from typing import Any, Callable, Dict, Tuple
+from typing import Any, Tuple
 
-from .operators import Kind, Value, converted, digits_of
-
-# With which end of what a side can be an order holds, if it does with anything.
-ORDERS: Dict[str, Tuple[Callable[[Any, Any], Any], int]] = {
-    "<": (operator.lt, 0), "<=": (operator.le, 0), ">": (operator.gt, 1), ">=": (operator.ge, 1)}
+from .operators import OPERATORS, Kind, Value, converted, digits_of
 
 
 def ends_of(value: Value, own: Kind, to: Kind) -> Tuple[Any, Any]:
@@ -26,9 +21,8 @@ def ends_of(value: Value, own: Kind, to: Kind) -> Tuple[Any, Any]:
 def is_never(sign: str, ends: Tuple[Any, Any], value: Value, number: Value, kind: Kind) -> bool:
     """Whether a comparison of a value, which has some ends, with a number of a kind never holds;
     with !=, whether == does not."""
-    if sign in ORDERS:
-        holds, end = ORDERS[sign]
-        return not holds(ends[end], number)
+    if sign[0] in "<>":
+        return not OPERATORS[sign].function(kind, ends[sign[0] == ">"], number)
     least, greatest = ends_of(number, kind, kind)
     pairs = zip(*(digits_of(one, kind.width) for one in (value, number))) if kind.width else ()
     others = "01xz" if sign in ("===", "!==") else "01"
