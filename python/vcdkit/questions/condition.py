@@ -401,8 +401,7 @@ class Conditions:
 
     def _test(self, tree: Node, result: str = "'1' in {0} if {0}.__class__ is str else {0}"
               ) -> int:
-        """Adds an expression that may be true, or of which another result counts; returns its
-        bit."""
+        """Adds an expression that may be true, or has another result; returns its bit."""
         self._typed(tree)
         self._tests.append(self._call(tree, result))
         return 1 << len(self._tests) - 1
