@@ -43,7 +43,9 @@ def blocks(text: BinaryIO, is_file: bool = False) -> Iterator[bytes]:
     read = cast(io.BufferedReader, text).read1
     for block in iter(lambda: read(BLOCK), b""):
         block = block if block.endswith(b"\n") else block + text.readline()
-        yield block if is_file else block[:block.rfind(b"\n") + 1]
+        block = block if is_file else block[:block.rfind(b"\n") + 1]
+        if block:
+            yield block
 
 
 def blocks_of(path: str) -> Iterator[bytes]:
@@ -214,7 +216,7 @@ def first_time(dump: "Source") -> Optional[int]:
     `None` if there is none before the end or a fault."""
     section = b""
     with contextlib.suppress(DumpFault), dump.open() as text:
-        words = (word for block in blocks(text) for word in block.split())
+        words = (word for block in blocks(text, True) for word in block.split())
         for word in words:
             first = word[:1]
             if first == b"#":
