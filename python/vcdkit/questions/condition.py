@@ -245,7 +245,7 @@ class Conditions:
         # Those over more than values (events, earlier edges, an answer), and those over events.
         self.with_more = self.with_events = 0
         self._values: List[Value] = [0]  # the first one is the time
-        self._ages: Set[Tuple[bytes, int]] = set()  # codes, and the ages that matter
+        self.ages: Set[Tuple[bytes, int]] = set()  # codes, and the ages that matter
         self._places: Dict[Tuple[_Name, Kind, Kind, int], int] = {}
         self._events: Dict[int, Tuple[bytes, int]] = {}  # of their places the codes and the clocks
         # A call has the value at this edge of a clock.
@@ -351,6 +351,7 @@ class Conditions:
         """Returns looks without a clock, and those at times at which an age becomes one that is
         asked for."""
         due: Dict[Tuple[bytes, int], int] = {}  # of codes and ages, when they are that old
+        ages = {code: [age for of, age in self.ages if of == code] for code, _ in self.ages}
 
         def passed(until: float) -> Iterator[Look]:
             """Returns the looks that ages need up to a time."""
@@ -362,15 +363,16 @@ class Conditions:
         fault: Optional[DumpFault] = None
         try:
             for time, changes, _ in looks:
-                for look in passed(time):
+                for look in passed(time) if due and min(due.values()) <= time else ():
                     if look[0] < time:
                         yield look
                     else:
                         changes = look[1] + changes
                 yield time, changes, 0
-                dates = dict(changes)
-                due.update((one, int(dates[one[0]]) + one[1]) for one in self._ages
-                           if one[0] in dates and int(dates[one[0]]) + one[1] > time)
+                for code, raw in changes:
+                    if code in ages:
+                        due.update(((code, age), int(raw) + age) for age in ages[code]
+                                   if int(raw) + age > time)
         except DumpFault as error:
             fault = error
         if due:
@@ -413,11 +415,13 @@ class Conditions:
             order += node.parts
         for node in reversed(order):
             _type(node)
-            for one, other in zip(node.parts, node.parts[::-1]):
+            for one, other, sign in zip(node.parts, node.parts[::-1], (
+                    node.sign, MIRRORED.get(node.sign, node.sign))):
                 if one.sign == "age" and isinstance(other.value, (int, float)):
                     code = one.parts[0].value.signal.code.encode() + b" "
-                    ages = math.ceil(other.value), math.floor(other.value) + 1
-                    self._ages.update((code, age) for age in ages)
+                    self.ages.update((code, age) for age, others in (
+                        (math.ceil(other.value), (">", "<=")),
+                        (math.floor(other.value) + 1, ("<", ">="))) if sign.strip() not in others)
 
     def _call(self, tree: Node, result: str = "{}") -> str:
         """Returns a call of a function of values, which is what an expression is. It has a line for

@@ -278,7 +278,8 @@ class Questions:
         known = conditions.with_events if self.edges else 0
         conditions.look_back(self.edges)
         looks = at_clocks(self.dump, names, codes, self.edges)
-        for time, changes, clocks in looks if self.edges else conditions.woken(looks):
+        for time, changes, clocks in conditions.woken(looks) if conditions.ages and (
+                not self.edges) else looks:
             for cells in self.cells:
                 cells.take(changes)
             found = conditions.take(changes, time)
