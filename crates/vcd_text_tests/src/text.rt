@@ -273,6 +273,91 @@ fn a_feed_goes_on_where_it_was_parked(rt: HostRuntime) {
     assert_eq!(rt; report.text(), b"ab@1 cd@2 cdabe@2 end@2 ".as_slice());
 }
 
+// What a feed is asked for. Each answer is recorded.
+#[derive(Clone, Copy)]
+enum Step {
+    // The next token, or the end or the halt.
+    Next,
+    // To keep the token as the value.
+    Keep,
+    // The token, and the value that was kept.
+    Kept,
+    // The tokens ahead, and to continue after them.
+    Ahead,
+    // This many tokens ahead, looked for slowly or fast, without moving the feed.
+    Each(usize, bool),
+}
+
+// Records this many tokens ahead, which are looked for slowly or fast.
+fn report_each(
+    feed: &Feed<'_, '_, '_, '_, Watch<Pieces<'_>>>,
+    many: usize,
+    slowly: bool,
+    report: &mut Report,
+) {
+    let mut ahead = feed.ahead();
+    for _ in 0..many {
+        report_one_ahead(&mut ahead, slowly, report);
+    }
+}
+
+// Asks a feed for this, and records its answer.
+fn take_step(feed: &mut Feed<'_, '_, '_, '_, Watch<Pieces<'_>>>, step: Step, report: &mut Report)
+    requires { failed_calls (source_of feed.old) < 2 ^ 64 - 1 }
+    ensures { failed_calls (source_of feed.new) ≤ failed_calls (source_of feed.old) + 1 }
+{
+    match step {
+        Step::Next => {
+            report_next(feed, report);
+        }
+        Step::Keep => feed.keep(),
+        Step::Kept => {
+            report.push(feed.token());
+            report.push(feed.value());
+            report.push(b" ");
+        }
+        Step::Ahead => report_ahead(feed, report),
+        Step::Each(many, slowly) => report_each(feed, many, slowly, report),
+    }
+}
+
+// Asks a feed that has not failed for all this, one after the other.
+fn take_steps(
+    feed: &mut Feed<'_, '_, '_, '_, Watch<Pieces<'_>>>,
+    steps: &[Step],
+    report: &mut Report,
+)
+    requires source { failed_calls (source_of feed.old) ≡ 0 }
+    requires few { length steps.now ≤ 16 }
+{
+    'steps: for step in steps {
+        take_step(feed, *step, report);
+    }
+}
+
+// Returns whether the answers to these steps over a text that is read at once give this record.
+fn steps_give(bytes: &[u8], chunk_len: usize, limit: usize, steps: &[Step], want: &[u8]) -> bool
+    requires chunk_len { (0 < chunk_len) × (chunk_len ≤ 300) }
+    requires limit { (0 < limit) × (limit ≤ 10) }
+    requires few { length steps.now ≤ 16 }
+{
+    let mut source = Watch::new(Pieces::new(bytes, 300));
+    let mut chunk = [0; 300];
+    let mut token = [0; 10];
+    let mut value = [0; 10];
+    let mut feed = Feed::new(
+        &mut source,
+        &mut chunk[..chunk_len],
+        &mut token[..limit],
+        &mut value[..limit],
+    );
+    let mut report = Report::new();
+    take_steps(&mut feed, steps, &mut report);
+    report.text() == want
+}
+
+static AFTER_WHITE: [Step; 2] = [Step::Next, Step::Each(6, false)];
+
 // Indented lines that end with a carriage return and a line feed, two spaces, and a run of white
 // bytes longer than 64. If a token is too long, none is given, and the white bytes before it stay
 // too.
@@ -282,22 +367,21 @@ fn white_bytes_before_a_token_are_passed_with_it(rt: HostRuntime) {
     bytes[..26].copy_from_slice(b"q\n \tab\r\ncd  ef\r\n\r\n    gh\r\n");
     bytes[126..129].copy_from_slice(b"ij\n");
     bytes[130..135].copy_from_slice(b"xxxxx");
-    let mut source = Watch::new(Pieces::new(&bytes, 300));
-    let mut chunk = [0; 300];
-    let mut token = [0; 4];
-    let mut value = [0; 4];
-    let mut feed = Feed::new(&mut source, &mut chunk, &mut token, &mut value);
-    let mut report = Report::new();
-    report_next(&mut feed, &mut report);
-    let mut ahead = feed.ahead();
-    for _ in 0..6 {
-        report_one_ahead(&mut ahead, false, &mut report);
-    }
-    assert_eq!(rt;
-        report.text(),
-        b"q@1 ab 5 cd 9 ef 13 gh 23 ij 127 - 127 ".as_slice()
-    );
+    let want = b"q@1 ab 5 cd 9 ef 13 gh 23 ij 127 - 127 ";
+    assert!(rt; steps_give(&bytes, 300, 4, &AFTER_WHITE, want));
 }
+
+static AHEAD_AND_NEXT: [Step; 9] = [
+    Step::Ahead,
+    Step::Next,
+    Step::Keep,
+    Step::Ahead,
+    Step::Kept,
+    Step::Ahead,
+    Step::Next,
+    Step::Ahead,
+    Step::Next,
+];
 
 // No token is given if it is too long, or if fewer than 64 bytes are left.
 #[test]
@@ -305,44 +389,17 @@ fn the_feed_goes_on_after_tokens_ahead(rt: HostRuntime) {
     let mut bytes = [b'x'; 160];
     bytes[..12].copy_from_slice(b"ab\ncd  ef\ng\n");
     bytes[20..70].copy_from_slice(&[b'\n'; 50]);
-    let mut source = Watch::new(Pieces::new(&bytes, 160));
-    let mut chunk = [0; 160];
-    let mut token = [0; 10];
-    let mut value = [0; 10];
-    let mut feed = Feed::new(&mut source, &mut chunk, &mut token, &mut value);
-    let mut report = Report::new();
-    report_ahead(&mut feed, &mut report);
-    report_next(&mut feed, &mut report);
-    feed.keep();
-    report_ahead(&mut feed, &mut report);
-    report.push(feed.token());
-    report.push(feed.value());
-    report.push(b" ");
-    report_ahead(&mut feed, &mut report);
-    report_next(&mut feed, &mut report);
-    report_ahead(&mut feed, &mut report);
-    report_next(&mut feed, &mut report);
-    assert_eq!(rt;
-        report.text(),
-        b"ab@1 cd ef g xxxxxxxx ab halt 1@54 halt 1@54 ".as_slice()
-    );
+    let want = b"ab@1 cd ef g xxxxxxxx ab halt 1@54 halt 1@54 ";
+    assert!(rt; steps_give(&bytes, 160, 10, &AHEAD_AND_NEXT, want));
 }
+
+static SLOWLY: [Step; 2] = [Step::Next, Step::Each(2, true)];
 
 // Tokens near the end of the bytes too. The last one is not whole, since no white byte comes after
 // it.
 #[test]
 fn whole_tokens_are_found_slowly(rt: HostRuntime) {
-    let mut source = Watch::new(Pieces::new(b"a  bc\ndef", 9));
-    let mut chunk = [0; 9];
-    let mut token = [0; 4];
-    let mut value = [0; 4];
-    let mut feed = Feed::new(&mut source, &mut chunk, &mut token, &mut value);
-    let mut report = Report::new();
-    report_next(&mut feed, &mut report);
-    let mut ahead = feed.ahead();
-    report_one_ahead(&mut ahead, true, &mut report);
-    report_one_ahead(&mut ahead, true, &mut report);
-    assert_eq!(rt; report.text(), b"a@1 bc 4 - 4 ".as_slice());
+    assert!(rt; steps_give(b"a  bc\ndef", 9, 4, &SLOWLY, b"a@1 bc 4 - 4 "));
 }
 
 // A device of which only every other call works: a signal interrupts its reads, and its writes take
