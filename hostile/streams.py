@@ -300,7 +300,8 @@ def changing(program, old, new):
 
 # ---- a terminal
 
-WAITS = b"vcdkit: the dump comes from standard input (for a file, write -i FILE)\n"
+WAITS = (b"vcdkit: the dump comes from standard input "
+         b"(for a file, write -i FILE; for merge, FILE)\n")
 
 
 def terminal(program):

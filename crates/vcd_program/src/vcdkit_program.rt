@@ -41,7 +41,7 @@ impl Program for Vcdkit {
 
     /// Returns the line that says that a dump is read from a terminal.
     fn waiting() -> &'static [u8] {
-        b"vcdkit: the dump comes from standard input (for a file, write -i FILE)\n"
+        b"vcdkit: the dump comes from standard input (for a file, write -i FILE; for merge, FILE)\n"
     }
 
     /// Returns the definition of the command line with the seven commands.
