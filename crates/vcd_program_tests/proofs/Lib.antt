@@ -1,2 +1,3 @@
 mod ReliesLemmas
+mod BeyondLemmas
 mod EchoLemmas

@@ -1,3 +1,4 @@
 pub mod Relies
+pub mod Beyond
 pub mod Echo
 pub mod EchoNames
