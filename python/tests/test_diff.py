@@ -74,7 +74,7 @@ REPORTS = [("a a", "0", "0", []), ("a b", "0", "1", [LINES.strip()]),
                                            "renames a scope"]),
            ("--map=t.qq=x a b", "1", "0", ["neither dump has t.qq; there is t.q"]),
            ("a other t.q", "1", "0", ["other: t.q: selects nothing; names are the paths that "
-                                      "`list` writes, and the scopes in these paths"]),
+                                      "`vcdkit list` writes, and the scopes in these paths"]),
            ("--map=u<&=t a other", "0", "2", ["differs 0 t.c 0 -", "ends 1 -"])]
 
 

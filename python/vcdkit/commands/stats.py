@@ -14,8 +14,9 @@ the dump ends before --to, the window ends with it.
 
 With --toggle, there is a line for each bit: how often it rises, falls and becomes x. The last line
 counts the bits. With --never-toggled, there are only lines of bits that neither rise nor fall, and
-the exit status is 1 if there is one, and 2 for a fault or an unknown name. --saif writes how long each bit is 0, 1, x and z, and how often it toggles, to a
-backward SAIF file, which power tools read. Both leave out real numbers and events.
+the exit status is 1 if there is one, and 2 for a fault or an unknown name. --saif writes how long
+each bit is 0, 1, x and z, and how often it toggles, to a backward SAIF file, which power tools
+read. All leave out real numbers and events.
 
 examples:
   vcdkit-stats --hex --from 1us sim.vcd.gz tb.cpu.state
@@ -156,8 +157,9 @@ def answer(words: List[str]) -> int:
     if asked.glitch is not None and (asked.toggle or asked.never, asked.saif, asked.form,
                                      asked.states, asked.values) != (False, None, None, [], None):
         options.error("--glitch goes with neither --toggle nor --saif, and shows no values")
-    if asked.values is not None and (asked.toggle or asked.never or asked.json or asked.saif is not None):
-        options.error("--values goes with none of --toggle, --saif and --json")
+    if asked.values is not None and (asked.toggle, asked.never, asked.json, asked.saif) != (
+            False, False, False, None):
+        options.error("--values goes with none of --toggle, --never-toggled, --saif and --json")
     check_outputs([asked.saif], [asked.file, asked.names_of])
     dump = dump_of(asked)
     times_of(dump, asked)  # a unit needs a time scale

@@ -86,7 +86,8 @@ class Lines:
     def tests(self) -> List[Test]:
         """Returns a test for each kind of line that was looked for."""
         return [Test(self._asked.file, what, "failure" if lines else "", "".join(lines[:1]),
-                     "\n".join(lines), "\n".join([self.compared, *self.notes] * (what == "differs")))
+                     "\n".join(lines), "\n".join(
+                         [self.compared, *self.notes] if what == "differs" else []))
                 for what, lines in self.lines.items()]
 
 

@@ -109,7 +109,7 @@ class Comparison:
             are(side.owns(name)[0]) for name in others)
 
     def _called(self, path: bytes, at: int = 0, alone: Optional[List[str]] = None) -> str:
-        """Returns the name of a variable of a dump in a line; of one that is alone, behind others."""
+        """Returns the name of a dump's variable in a line; of one that is alone, after others."""
         its = path.decode("utf-8", "surrogateescape").partition(".")[2]
         side, other = self._sides[at], None if alone is None else self._sides[1 - at]
         return side.called(its, other, alone or ())
