@@ -101,11 +101,9 @@ class Evaluator:
         at = words.index("--") if "--" in words else len(words)
         names = [name.encode("utf-8", "surrogateescape") for name in words[at + 1:]]
         if command == "strobe":
-            clocks = [(option, *word.rsplit("@", 1)) for option, word in zip(
-                words[:at:2], words[1:at:2])]
             found: Tuple[bytes, bytes, int] = strobe.answered(
-                [(path.encode(), int(place), option == "--fall") for option, path, place in clocks],
-                names, *inputs[0])
+                [(word.encode(), option == "--fall") for option, word in zip(
+                    words[:at:2], words[1:at:2])], names, *inputs[0])
             return found
         times = [word for option in words[1:at:2] for word in option.split(",")]
         done: Tuple[bytes, bytes, int] = evaluator.run(
