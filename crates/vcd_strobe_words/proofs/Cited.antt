@@ -19,10 +19,10 @@ pub use Rattle.vcd_model.specs.Job.{is_number}
 pub use Rattle.vcd_model.specs.Strobe.{ClockName as ModelClockName}
 pub use Rattle.vcd_strobe.specs.Named.{model_name}
 pub use Rattle.vcd_words.proofs.Facts.{with_about, with_after_help, with_arg, with_usage, with_version}
-pub use Rattle.vcd_words.specs.Matches.{words_of}
-pub use Rattle.vcd_words.specs.Words.{IsWhole, input_rule, names_rule, some_names, texts_of}
+pub use Rattle.vcd_words.specs.Matches.{word_of, words_of}
+pub use Rattle.vcd_words.specs.Words.{HasFault, IsOfWords, IsWhole, input_rule, limit_rule, names_rule, some_names, text_of, texts_of, use_text}
 pub use Rattle.vcd_words.specs.declared.job.UseFault.{UseFault}
 pub use Rattle.vcd_words.specs.declared.job.UseFault.TheVariants.{OutOfMemory}
-pub use Rattle.vcd_strobe_words.specs.Asked.{Asks, all_of, clock_asked, clocks_asked, clocks_or_fault, place_asked, strobe_with}
+pub use Rattle.vcd_strobe_words.specs.Asked.{Asks, all_of, clock_asked, clocks_asked, clocks_or_fault, limit_asked, place_asked, strobe_asked, strobe_with}
 pub use Rattle.vcd_strobe_words.specs.Words.{bare_app, clock_rule}
-pub use Rattle.vcd_strobe_words.specs.declared.job.Strobing.{Strobing}
+pub use Rattle.vcd_strobe_words.specs.declared.strobing.Strobing.{Strobing}

@@ -1,5 +1,5 @@
 -- Which words the command line takes, and what it finds in them: worked by hand.
-use Rattle.vcd_strobe_words.proofs.Cited.{◌≡◌, List, [], ◌∷◌, codes, refl, Option, Some, None, Text, clock_asked, place_asked, false, true}
+use Rattle.vcd_strobe_words.proofs.Cited.{◌≡◌, List, [], ◌∷◌, codes, refl, Err, Ok, Option, Some, None, Text, clock_asked, limit_asked, place_asked, false, true}
 use Prim.Native.String.{String}
 use Rattle.clap.proofs.OnLiterals.{clap_on_literals}
 use Rattle.clap.specs.Words.{all_of, fault_of, first_of, matches_of}
@@ -51,6 +51,23 @@ no_clock : fault_of strobe_app (said ("--rise" ∷ [])) ≡ kind.InvalidValue �
 unfolding clap_on_literals
 no_clock = refl
 
+limit : found "token-limit" ("--rise" ∷ "a" ∷ "--token-limit" ∷ "4000000" ∷ []) ≡ Some (codes "4000000")
+unfolding clap_on_literals
+limit = refl
+
+two_limits : fault_of strobe_app (said ("--token-limit" ∷ "64" ∷ "--token-limit" ∷ "64" ∷ [])) ≡ kind.ArgumentConflict ∷ []
+unfolding clap_on_literals
+two_limits = refl
+
+good_limit : limit_asked (Some (codes "4000000")) ≡ Ok 4000000
+good_limit = refl
+
+no_limit : limit_asked None ≡ Ok 1048576
+no_limit = refl
+
+bad_limit : limit_asked (Some (codes "63")) ≡ Err (codes "bad token limit: 63")
+bad_limit = refl
+
 -- ---- names
 
 two_names : all "names" ("b" ∷ "--rise" ∷ "a" ∷ "c" ∷ []) ≡ Some (words ("b" ∷ "c" ∷ []))
@@ -63,10 +80,10 @@ no_names = refl
 
 -- ---- clocks
 
-rising : clock_asked false (codes "a@3") ≡ record { path = codes "a"; place = Some 3; falls = false }
+rising : clock_asked false (codes "a@3") ≡ record { word = codes "a@3"; path = codes "a"; place = Some 3; falls = false }
 rising = refl
 
-falling : clock_asked true (codes "a") ≡ record { path = codes "a"; place = None; falls = true }
+falling : clock_asked true (codes "a") ≡ record { word = codes "a"; path = codes "a"; place = None; falls = true }
 falling = refl
 
 no_number : place_asked (codes "a@b") ≡ (codes "a@b", None)

@@ -8,11 +8,12 @@ use Rattle.vcd_model.specs.Bytes.{decimal_value, is_empty}
 use Rattle.vcd_model.specs.Job.{is_number}
 use Rattle.vcd_model.specs.Strobe.{ClockName as ModelClockName, Strobe}
 use Rattle.vcd_strobe.specs.Named.{model_name}
-use Rattle.vcd_words.specs.Matches.{words_of}
+use Rattle.vcd_model.specs.Words as model
+use Rattle.vcd_words.specs.Matches.{word_of, words_of}
 use Rattle.vcd_words.specs.Words.{use_text}
 use Rattle.vcd_words.specs.declared.job.UseFault.{UseFault}
 use Rattle.vcd_words.specs.declared.job.UseFault.TheVariants.{OutOfMemory}
-use Rattle.vcd_strobe_words.specs.declared.job.Strobing.{Strobing}
+use Rattle.vcd_strobe_words.specs.declared.strobing.Strobing.{Strobing}
 
 -- ---- clocks
 
@@ -28,7 +29,7 @@ place_asked word =
 
 -- the clock that a word names
 abbrev pub clock_asked : (falls : Bool) → Text → ModelClockName
-clock_asked falls word = record { path = (place_asked word).0; place = (place_asked word).1; falls = falls }
+clock_asked falls word = record { word = word; path = (place_asked word).0; place = (place_asked word).1; falls = falls }
 
 -- the clocks of words for rising edges, then those of words for falling ones
 abbrev pub clocks_asked : (rises falls : List Text) → List ModelClockName
@@ -46,13 +47,20 @@ clocks_or_fault clocks =
 abbrev pub all_of : ArgMatches → Text → List Text
 all_of m id = unwrap_or (words_of m id) []
 
--- what is asked for, with these names
-abbrev pub strobe_with : List Text → Result (List ModelClockName) Text → Result Strobe Text
-strobe_with names (Ok clocks) = Ok (record { clocks = clocks; names = names })
-strobe_with names (Err why) = Err why
+-- the token limit, as `vcdkit` has it
+abbrev pub limit_asked : Option Text → Result ℕ Text
+limit_asked word = elim (model.limit_of word) [ Ok limit ↦ Ok limit | Err fault ↦ Err (model.use_text fault) ]
 
-abbrev pub strobe_asked : ArgMatches → Result Strobe Text
-strobe_asked m = strobe_with (all_of m (codes "names")) (clocks_or_fault (clocks_asked (all_of m (codes "rise")) (all_of m (codes "fall"))))
+-- what is asked for, with these names, and its token limit
+abbrev pub strobe_with : List Text → Result (List ModelClockName) Text → Result ℕ Text → Result (Strobe × ℕ) Text
+strobe_with names (Ok clocks) (Ok limit) = Ok (record { clocks = clocks; names = names }, limit)
+strobe_with names (Ok clocks) (Err why) = Err why
+strobe_with names (Err why) limit = Err why
+
+abbrev pub strobe_asked : ArgMatches → Result (Strobe × ℕ) Text
+strobe_asked m =
+    strobe_with (all_of m (codes "names")) (clocks_or_fault (clocks_asked (all_of m (codes "rise")) (all_of m (codes "fall"))))
+    (limit_asked (word_of m (codes "token-limit")))
 
 -- what a job asks for
 abbrev pub strobe_in : Strobing → Strobe
@@ -62,6 +70,6 @@ strobe_in job = record { clocks = map model_name job.clocks.items; names = map s
 
 -- the words ask for this job, or have this fault; memory may run out only if they have none
 abbrev pub Asks : ArgMatches → Result Strobing UseFault → Type 0
-Asks m (Ok job) = strobe_asked m ≡ Ok (strobe_in job)
-Asks m (Err OutOfMemory) = (asked : Strobe) × (strobe_asked m ≡ Ok asked)
+Asks m (Ok job) = strobe_asked m ≡ Ok (strobe_in job, job.limit)
+Asks m (Err OutOfMemory) = (asked : Strobe × ℕ) × (strobe_asked m ≡ Ok asked)
 Asks m (Err fault) = strobe_asked m ≡ Err (use_text fault)

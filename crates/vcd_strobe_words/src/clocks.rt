@@ -60,6 +60,7 @@ fn clock_name(alloc: Global, word: &str, falls: bool) -> Result<ClockName, Alloc
 {
     let (path, place) = path_and_place(word);
     Ok(ClockName {
+        word: String::from_str(alloc, word)?,
         path: String::from_str(alloc, path)?,
         place,
         falls,

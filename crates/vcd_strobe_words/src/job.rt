@@ -2,19 +2,11 @@
 ghost use Rattle.vcd_strobe_words.specs.Names.{Asks};
 
 use crate::clocks::{add_clocks, check_clocks};
+use crate::limit::limit_of;
+use crate::strobing::Strobing;
 use clap::ArgMatches;
 use std::alloc::Global;
-use vcd_strobe::ClockName;
-use vcd_words::{UseFault, copied_some, words_of};
-
-/// The strobe that is asked for.
-#[derive(Drop)]
-pub struct Strobing {
-    /// The clocks: 1 to 64.
-    pub clocks: Vec<ClockName>,
-    /// The names of the variables that are written; without any, all are.
-    pub names: Vec<String>,
-}
+use vcd_words::{UseFault, copied_some, word_of, words_of};
 
 /// Returns what a parsed command line asks for, with copies of its names. Fails with the first
 /// fault of the words, or if memory runs out. It takes no memory before the words were checked.
@@ -24,9 +16,14 @@ pub fn job_of<'a>(alloc: Global, matches: &ArgMatches<'a>) -> Result<Strobing, U
     let rises = words_of(matches, "rise");
     let falls = words_of(matches, "fall");
     check_clocks(rises, falls)?;
+    let limit = limit_of(word_of(matches, "token-limit"))?;
     let mut clocks = Vec::new(alloc);
     add_clocks(alloc, rises, false, &mut clocks)?;
     add_clocks(alloc, falls, true, &mut clocks)?;
     let names = copied_some(alloc, words_of(matches, "names"))?;
-    Ok(Strobing { clocks, names })
+    Ok(Strobing {
+        clocks,
+        names,
+        limit,
+    })
 }

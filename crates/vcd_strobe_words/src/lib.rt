@@ -6,8 +6,8 @@
 //! # The modules
 //!
 //! - `command`: the words that the command line accepts
-//! - `clocks`: the clocks that words name
-//! - `job`: `Strobing`; `job_of`
+//! - `clocks`: the clocks that words name; `limit`: the token limit
+//! - `strobing`: `Strobing`; `job`: `job_of`
 //!
 //! In `specs/`: `Words`, what the command line accepts; `Asked`, what it asks for.
 #![tactic(auto)]
@@ -15,6 +15,9 @@
 mod clocks;
 mod command;
 mod job;
+mod limit;
+mod strobing;
 
 pub use command::command_of;
-pub use job::{Strobing, job_of};
+pub use job::job_of;
+pub use strobing::Strobing;

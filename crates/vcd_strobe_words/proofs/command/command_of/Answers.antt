@@ -1,4 +1,4 @@
-use Rattle.vcd_strobe_words.proofs.Cited.{codes, false, new_app, with_rule, bare_app, clock_rule, input_rule, names_rule, IsWhole, IfOk-weaker, with_about, with_after_help, with_arg, with_usage, with_version}
+use Rattle.vcd_strobe_words.proofs.Cited.{codes, false, new_app, with_rule, bare_app, clock_rule, input_rule, limit_rule, names_rule, IsWhole, IfOk-weaker, with_about, with_after_help, with_arg, with_usage, with_version}
 use Rattle.vcd_strobe_words.proofs.command.command_of.Goals as goal
 
 pub returns : goal.returns
@@ -14,5 +14,7 @@ returns c =
     (with_rule bare_app rise) first c.clock-fall.result fall c.in_ok-arg-2.ensures c.clock-fall.ensures in
     let third = with_arg c.in_ok-arg-2.field-0 c.in_ok-arg-3.field-0
     (with_rule (with_rule bare_app rise) fall) second c.input.result input_rule c.in_ok-arg-3.ensures c.input.ensures in
-    IfOk-weaker c.arg-4.result _ _ (λ r h. with_arg c.in_ok-arg-3.field-0 r
-    (with_rule (with_rule (with_rule bare_app rise) fall) input_rule) third c.names.result (names_rule false) h c.names.ensures) c.arg-4.ensures
+    let fourth = with_arg c.in_ok-arg-3.field-0 c.in_ok-arg-4.field-0
+    (with_rule (with_rule (with_rule bare_app rise) fall) input_rule) third c.token_limit.result limit_rule c.in_ok-arg-4.ensures c.token_limit.ensures in
+    IfOk-weaker c.arg-5.result _ _ (λ r h. with_arg c.in_ok-arg-4.field-0 r
+    (with_rule (with_rule (with_rule (with_rule bare_app rise) fall) input_rule) limit_rule) fourth c.names.result (names_rule false) h c.names.ensures) c.arg-5.ensures
