@@ -23,7 +23,7 @@ use Rattle.vcd_strobe.specs.Lines.{ArePlaces, place_of}
 use Rattle.vcd_strobe.specs.Strobes.{AreFresh, Suffices}
 use Rattle.vcd_strobe.specs.declared.start.Room.{Room}
 use Rattle.vcd_strobe_words.specs.Asked.{strobe_in}
-use Rattle.vcd_strobe_words.specs.declared.job.Strobing.{Strobing}
+use Rattle.vcd_strobe_words.specs.declared.strobing.Strobing.{Strobing}
 use Rattle.vcdkit_strobe.specs.Bound.{code_bound, head_count, places_count, strobe_bound}
 use Rattle.vcdkit_strobe.specs.Calls.{IsHeadMemory, IsRoomFor, IsSelected}
 use Rattle.vcdkit_strobe.specs.declared.room.HeadMemory.{HeadMemory}

@@ -9,7 +9,7 @@ use Rattle.vcd_model.specs.Strobe.{no_clock}
 use Rattle.vcd_words.specs.declared.job.UseFault.{UseFault}
 use Rattle.vcd_words.specs.declared.job.UseFault.TheVariants as use_fault
 use Rattle.vcd_strobe_words.specs.Asked.{Asks, strobe_in}
-use Rattle.vcd_strobe_words.specs.declared.job.Strobing.{Strobing}
+use Rattle.vcd_strobe_words.specs.declared.strobing.Strobing.{Strobing}
 use Rattle.vcd_job.proofs.ProgramLemmas.{IsUnnamed}
 use Rattle.vcd_job.specs.Message.{use_outcome}
 use Rattle.vcd_job.specs.Work.{Course, due_by, outcome_of as job_outcome, settled_by}
@@ -25,8 +25,8 @@ refusal-is matches f e = ap (λ r. outcome_if r [] []) e
 
 -- the outcome of the words is that of their job
 pub outcome-is : (job : Strobing) (matches : ArgMatches) → Asks matches (Ok job) → (names : List Text) (left : Input)
-    → outcome_of matches names (left ∷ []) ≡ job_outcome (work_in job) 1048576 (name_at names 0) left
-outcome-is job matches asks names left = ap (λ r. outcome_if r names (left ∷ [])) asks ∙ sym (work_is_strobe (strobe_in job) 1048576 (name_at names 0) left)
+    → outcome_of matches names (left ∷ []) ≡ job_outcome (work_in job) job.limit (name_at names 0) left
+outcome-is job matches asks names left = ap (λ r. outcome_if r names (left ∷ [])) asks ∙ sym (work_is_strobe (strobe_in job) job.limit (name_at names 0) left)
 
 -- what settles it and what is due do not depend on the name of the input
 pub unnamed : (job : Strobing) → IsUnnamed (work_in job)
@@ -34,6 +34,6 @@ unnamed job name h ts = by_found (no_clock h (strobe_in job).clocks) (first_unma
   where
     by_found : (none : Option (List ℕ)) (unmatched : Option ℕ) → let course : List ℕ → Result Course Outcome = λ n. course_if none unmatched (strobe_in job) n h in
         (settled_by (course name) h ts ≡ settled_by (course []) h ts) × (due_by (course name) h ts ≡ due_by (course []) h ts)
-    by_found (Some path) unmatched = (refl, refl)
+    by_found (Some message) unmatched = (refl, refl)
     by_found None (Some i) = (refl, refl)
     by_found None None = (refl, refl)

@@ -14,16 +14,16 @@ use Rattle.vcd_strobe.specs.Lines.{ArePlaces}
 use Rattle.vcd_strobe.specs.Strobes.{AreFresh}
 use Rattle.vcd_strobe.specs.declared.start.Room.{Room}
 use Rattle.vcd_strobe_words.specs.Asked.{strobe_in}
-use Rattle.vcd_strobe_words.specs.declared.job.Strobing.{Strobing}
+use Rattle.vcd_strobe_words.specs.declared.strobing.Strobing.{Strobing}
 use Rattle.vcd_job.specs.Ends.{Speech}
 use Rattle.vcdkit_strobe.specs.Work.{refusal_of}
-use Rattle.vcdkit_strobe.specs.declared.job.NoClock.{NoClock}
+use Rattle.vcdkit_strobe.specs.declared.job.Refusal.{Refusal}
 use Rattle.vcdkit_strobe.specs.declared.room.HeadMemory.{HeadMemory}
 use Rattle.vcdkit_strobe.specs.declared.room.RoomMemory.{RoomMemory}
 
 -- how the job speaks
-abbrev pub speech_in : Strobing → Speech NoClock
-speech_in job = record { asked = (strobe_in job).names; refusal = λ why name. refusal_of job why; faulty = 2 }
+abbrev pub speech_in : Strobing → Speech Refusal
+speech_in job = record { asked = (strobe_in job).names; refusal = refusal_of job; faulty = 2 }
 
 -- ---- memory
 

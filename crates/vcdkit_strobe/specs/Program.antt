@@ -1,5 +1,5 @@
 -- The outcome of the words of vcdkit-strobe.
-use Rattle.std.specs.Prelude.{List, [], ◌∷◌, Result, Ok, Err}
+use Rattle.std.specs.Prelude.{ℕ, List, [], ◌∷◌, Result, Ok, Err}
 use Rattle.clap.specs.Words.{Text}
 use Rattle.clap.specs.declared.parser.matches.ArgMatches.{ArgMatches}
 use Rattle.vcd_model.specs.Input.{Input}
@@ -7,9 +7,9 @@ use Rattle.vcd_model.specs.Outcome.{Outcome, clean_outcome, name_at}
 use Rattle.vcd_model.specs.Strobe.{Strobe, strobe}
 use Rattle.vcd_strobe_words.specs.Asked.{strobe_asked}
 
--- the outcome of what words ask for, under a token limit of 1 MiB
-abbrev pub outcome_if : Result Strobe Text → (names : List Text) → List Input → Outcome
-outcome_if (Ok asked) names (i ∷ inputs) = strobe asked 1048576 (name_at names 0) i
+-- the outcome of what words ask for, under their token limit
+abbrev pub outcome_if : Result (Strobe × ℕ) Text → (names : List Text) → List Input → Outcome
+outcome_if (Ok asked) names (i ∷ inputs) = strobe asked.0 asked.1 (name_at names 0) i
 outcome_if (Ok asked) names [] = clean_outcome []
 outcome_if (Err why) names inputs = record { output = []; message = why; status = 2 }
 

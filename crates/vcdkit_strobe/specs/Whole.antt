@@ -2,7 +2,7 @@
 use Rattle.std.specs.Prelude.{◌≡◌}
 use Rattle.vcd_strobe_words.specs.Asked.{Asks}
 use Rattle.vcd_strobe_words.specs.Words.{strobe_app}
-use Rattle.vcd_strobe_words.specs.declared.job.Strobing.{Strobing}
+use Rattle.vcd_strobe_words.specs.declared.strobing.Strobing.{Strobing}
 use Rattle.vcd_job.specs.Message.{use_outcome}
 use Rattle.vcd_job.specs.OneProgram.{EndsAlone, Reads}
 use Rattle.vcd_program.specs.OneInput.{only_input}
@@ -21,5 +21,5 @@ strobe_program = record {
   outcome = outcome_of;
   refusal = use_outcome;
   ends = λ job. EndsAlone program_name (λ n. n ≡ 0) (speech_in job);
-  reads = λ job ended texts. Reads (work_in job) 1048576 65536 ended;
+  reads = λ job ended texts. Reads (work_in job) job.limit 65536 ended;
 }

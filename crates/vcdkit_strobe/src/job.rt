@@ -1,23 +1,36 @@
 //! A strobe of the body of a dump, as a job.
 ghost use Rattle.std.specs.Prelude.{◌≡◌, ◌-◌, ◌^◌, ◌<◌, ◌≤◌, ⊤, vec_len};
-ghost use Rattle.vcdkit_strobe.specs.Names.{Answers, AreOfJob, ArePlacesOf, BodyEnds, chunk_len_of, CountsAt, CountsWrites, EndsAtRead, failure_of, HasNotFailed, HasPassedOn, IsHeadMemory, IsLentWithin, IsRoomFor, no_clock_line, path_at, program_line, program_name, PutsTo, refusal_of, SameLoans, source_of, speech_in, strobe_in, work_in, writes_failed};
+ghost use Rattle.vcdkit_strobe.specs.Names.{Answers, AreOfJob, ArePlacesOf, BodyEnds, chunk_len_of, CountsAt, CountsWrites, edges_end, EndsAtRead, failure_of, HasNotFailed, HasPassedOn, IsHeadMemory, IsLentWithin, IsRoomFor, model_why, no_clock_line, no_clock_text, no_edge, program_line, program_name, PutsTo, refusal_of, SameLoans, source_of, speech_in, strobe_in, word_at, work_in, writes_failed};
 
 use crate::program::VcdkitStrobe;
 use crate::room::{HeadMemory, codes_memory, head_memory, room_memory};
 use std::alloc::Global;
-use vcd_body::Stop;
+use vcd_body::{Done, Stop};
 use vcd_head::{flag_codes, select};
-use vcd_job::{Answer, Failure, Lengths, OneInput, answered};
-use vcd_strobe::{Room, Strobe, find_clocks, places_of, set_roles, strobe};
+use vcd_job::{Answer, Failure, Lengths, OneInput};
+use vcd_strobe::{NoClock, Room, Strobe, find_clocks, places_of, set_roles, strobe};
 use vcd_strobe_words::Strobing;
-use vcd_text::{Feed, Sink, Source, WriteFailed, put};
+use vcd_text::{Feed, Sink, Source, WriteFailed, put, put_number};
 use vcd_view::{HeadView, need};
 
-/// Why a strobe is refused over an input: a name selects no clock.
+/// Why a strobe is refused over an input.
 #[derive(Clone, Copy, PartialEq, Eq, Debug)]
-pub struct NoClock {
-    /// The index of the first such name.
-    pub index: usize,
+pub enum Refusal {
+    /// The name at this index, the first such one, is that of no clock.
+    NoClock(usize, NoClock),
+    /// No clock had an edge before the dump ended.
+    NoEdge,
+}
+
+/// Returns what is answered to a strobe that returned `end` after this many edges.
+fn finished(end: Result<Done, Stop>, edges: u64) -> Result<Answer<Refusal>, Failure>
+    ensures { result ≡ edges_end edges end }
+{
+    match end {
+        Ok(Done::Whole) if edges == 0 => Ok(Answer::Refused(Refusal::NoEdge)),
+        Ok(_) => Ok(Answer::Status(0)),
+        Err(stop) => Err(Failure::of_stop(stop, 0)),
+    }
 }
 
 /// Writes the strobe of the marked variables over the body that follows the header of `view`,
@@ -31,7 +44,7 @@ fn strobe_in<S: Source, W: Sink>(
     head: &HeadMemory,
     feed: &mut Feed<'_, '_, '_, '_, S>,
     out: &mut W,
-) -> Result<Answer<NoClock>, Failure>
+) -> Result<Answer<Refusal>, Failure>
     requires feed_failures { S.failures (source_of feed.old) < 2 ^ 64 - 1 }
     requires out_failures { (W.device out.old).failures < 2 ^ 64 - 1 }
     requires unfailed { HasNotFailed feed.old }
@@ -52,7 +65,8 @@ fn strobe_in<S: Source, W: Sink>(
     ensures answers { Answers (λ status. status ≡ 0) result }
 {
     let mut state = Strobe::new(places, room, &head.clocks, &head.id);
-    answered(strobe(view, feed, &mut state, &head.marks, out))
+    let end = strobe(view, feed, &mut state, &head.marks, out);
+    finished(end, state.edges)
 }
 
 /// Writes the strobe that the job asks for over the body that follows the header of `view`: takes
@@ -64,7 +78,7 @@ fn strobe_body<S: Source, W: Sink>(
     view: HeadView<'_>,
     feed: &mut Feed<'_, '_, '_, '_, S>,
     out: &mut W,
-) -> Result<Answer<NoClock>, Failure>
+) -> Result<Answer<Refusal>, Failure>
     requires feed_failures { S.failures (source_of feed.old) < 2 ^ 64 - 1 }
     requires out_failures { (W.device out.old).failures < 2 ^ 64 - 1 }
     requires unfailed { HasNotFailed feed.old }
@@ -79,10 +93,10 @@ fn strobe_body<S: Source, W: Sink>(
     ensures answers { Answers (λ status. status ≡ 0) result }
 {
     let mut head = head_memory(alloc, view, job.clocks.len())?;
-    let (marks, flags) = (&mut head.marks, &mut head.flags);
-    if let Err(index) = find_clocks(view, &job.clocks, marks, flags, &mut head.clocks) {
-        return Ok(Answer::Refused(NoClock { index }));
+    if let Err((index, why)) = find_clocks(view, &job.clocks, &mut head.clocks) {
+        return Ok(Answer::Refused(Refusal::NoClock(index, why)));
     }
+    let (marks, flags) = (&mut head.marks, &mut head.flags);
     if let Err(name) = select(view, &job.names, marks) {
         return Err(Failure::Stopped(Stop::Unmatched { name }));
     }
@@ -101,23 +115,59 @@ fn strobe_body<S: Source, W: Sink>(
     strobe_in(job, view, places, room, &head, feed, out)
 }
 
-/// Writes the line that the name of a clock selects none. Fails if a write does.
-fn put_no_clock<E: Sink>(path: &[u8], err: &mut E) -> Result<(), WriteFailed>
+/// Writes why a name is that of no clock. Fails if a write does.
+fn put_reason<E: Sink>(why: NoClock, err: &mut E) -> Result<(), WriteFailed>
+    requires { (E.device err.old).failures < 2 ^ 64 - 1 }
+    ensures { PutsTo E.device err.old err.new (no_clock_text (model_why why)) result }
+{
+    match why {
+        NoClock::Missing => put(err, b"no such variable"),
+        NoClock::Several => put(err, b"several variables have this path"),
+        NoClock::Event => put(err, b"it is an event"),
+        NoClock::Real => put(err, b"it is a real number"),
+        NoClock::Wide(size) => {
+            put(err, b"it has ")?;
+            put_number(err, size as u64)?;
+            put(err, b" bits: write PATH@PLACE")
+        }
+        NoClock::High(size) => {
+            put(err, b"the highest place is ")?;
+            put_number(err, size.saturating_sub(1) as u64)
+        }
+    }
+}
+
+/// Writes the line that the name of a clock, with this argument, is that of none. Fails if a write
+/// does.
+fn put_no_clock<E: Sink>(word: &[u8], why: NoClock, err: &mut E) -> Result<(), WriteFailed>
     requires { (E.device err.old).failures < 2 ^ 64 - 1 }
     ensures { PutsTo E.device err.old err.new
-        (program_line program_name (no_clock_line path.now).message) result }
+        (program_line program_name (no_clock_line word.now why).message) result }
 {
-    put(err, b"vcdkit-strobe: no clock of one bit: ")?;
-    put(err, path)?;
+    put(err, b"vcdkit-strobe: ")?;
+    put(err, word)?;
+    put(err, b": ")?;
+    put_reason(why, err)?;
     put(err, b"\n")
 }
 
-/// Returns the path of the clock's name at this index; an empty one if there is none.
-fn path_of(job: &Strobing, at: usize) -> &[u8]
-    ensures { result.now ≡ path_at job.now at }
+/// Writes the line that the dump of this name has no edge. Fails if a write does.
+fn put_no_edge<E: Sink>(name: &str, err: &mut E) -> Result<(), WriteFailed>
+    requires { (E.device err.old).failures < 2 ^ 64 - 1 }
+    ensures { PutsTo E.device err.old err.new
+        (program_line program_name (no_edge name.now).message) result }
+{
+    put(err, b"vcdkit-strobe: ")?;
+    put(err, name.as_bytes())?;
+    put(err, b": no edge\n")
+}
+
+/// Returns the argument of the clock's name at this index; an empty one if there is none.
+fn word_at(job: &Strobing, at: usize) -> &[u8]
+    ensures { result.now ≡ word_at job.now at }
 {
     match job.clocks.get(at) {
-        Some(name) => name.path.as_bytes(),
+        Some(name) => name.word.as_bytes(),
         None => b"",
     }
 }
@@ -125,7 +175,7 @@ fn path_of(job: &Strobing, at: usize) -> &[u8]
 impl OneInput for VcdkitStrobe {
     type Job = Strobing;
 
-    type Refusal = NoClock;
+    type Refusal = Refusal;
 
     ghost program = { program_name };
 
@@ -133,13 +183,13 @@ impl OneInput for VcdkitStrobe {
 
     ghost work = { λ job. work_in job };
 
-    ghost limit = { λ _. 1048576 };
+    ghost limit = { λ job. job.limit };
 
     ghost chunk = { λ _. 65536 };
 
     ghost asked = { λ job. (strobe_in job).names };
 
-    ghost refusal = { λ job why _. refusal_of job why };
+    ghost refusal = { λ job why name. refusal_of job why name };
 
     ghost answers = { λ status. status ≡ 0 };
 
@@ -153,10 +203,10 @@ impl OneInput for VcdkitStrobe {
         2
     }
 
-    /// Returns 1 MiB for a token, and 64 KiB for a read.
-    fn lengths(_job: &Strobing) -> Lengths {
+    /// Returns the token limit of the job, and 64 KiB for a read.
+    fn lengths(job: &Strobing) -> Lengths {
         Lengths {
-            limit: 1_048_576,
+            limit: job.limit,
             chunk: 65_536,
         }
     }
@@ -173,13 +223,22 @@ impl OneInput for VcdkitStrobe {
         view: HeadView<'_>,
         feed: &mut Feed<'_, '_, '_, '_, S>,
         out: &mut W,
-    ) -> Result<Answer<NoClock>, Failure> {
+    ) -> Result<Answer<Refusal>, Failure> {
         strobe_body(alloc, job, view, feed, out)
     }
 
-    /// Writes the line that says why the job was refused, and returns 2.
-    fn refuse<E: Sink>(job: &Strobing, why: NoClock, _name: &str, err: &mut E) -> u8 {
-        let _ = put_no_clock(path_of(job, why.index), err);
-        2
+    /// Writes the line that says why the job was refused, and returns 1 if there was no edge,
+    /// otherwise 2.
+    fn refuse<E: Sink>(job: &Strobing, why: Refusal, name: &str, err: &mut E) -> u8 {
+        match why {
+            Refusal::NoClock(index, why) => {
+                let _ = put_no_clock(word_at(job, index), why, err);
+                2
+            }
+            Refusal::NoEdge => {
+                let _ = put_no_edge(name, err);
+                1
+            }
+        }
     }
 }

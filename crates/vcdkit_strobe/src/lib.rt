@@ -20,6 +20,6 @@ mod memory;
 mod program;
 mod room;
 
-pub use job::NoClock;
+pub use job::Refusal;
 pub use memory::strobe_in_memory;
 pub use program::VcdkitStrobe;

@@ -35,7 +35,7 @@ pub returns-in-Err-clause-ends : goal.returns-in-Err-clause-ends
 returns-in-Err-clause-ends g c = λ h i front name views given.
     let clocks : c.args.job.now.clocks.items ≡ c.deref.result.now = search rules in
     let found = c.in-Err.ensures.finds h views in
-    unclocked c.args.job.now _ _ i front h name _ c.args.feed.now _ refl given c.in-Err.index found.0
+    unclocked c.args.job.now _ _ i front h name _ c.args.feed.now _ refl given c.in-Err.index c.in-Err.why found.0
     (ap (λ l. slice_get (map model_name l) c.in-Err.index) clocks ∙ found.1) (ap (λ l. no_clock h (map model_name l)) clocks ∙ found.2)
 
 pub returns-in-Err-select-clause-ends : goal.returns-in-Err-select-clause-ends
@@ -52,8 +52,8 @@ strobe_in-requires-clause-selected g c = λ h views.
     let clocks : c.args.job.now.clocks.items ≡ c.deref.result.now = search rules in
     let names : c.args.job.now.names.items ≡ c.deref-2.result.now = search rules in
     let found = c.in_default.ensures.finds h views in
-    let set = with_items_is head.clocks c.find_clocks.new.clocks (c.find_clocks.auto.clocks ∙ c.deref_mut-3.ensures.len) in
-    let marked = with_items_is (with_items head.marks c.find_clocks.new.marks) c.select.new.marks (c.select.auto.marks ∙ c.deref_mut-4.ensures.len) in
+    let set = with_items_is head.clocks c.find_clocks.new.clocks (c.find_clocks.auto.clocks ∙ c.deref_mut.ensures.len) in
+    let marked = with_items_is head.marks c.select.new.marks (c.select.auto.marks ∙ c.deref_mut-2.ensures.len) in
     record {
       clocked = ap (λ l. no_clock h (map model_name l)) clocks ∙ found.0;
       matched = ap (λ l. first_unmatched (map string_bytes l) h.declarations) names ∙ c.in_default-select.ensures.names h views;
@@ -67,13 +67,13 @@ strobe_in-requires-clause-places g c = λ h views.
     let head = c.in_ok-head.head in
     let names : c.args.job.now.names.items ≡ c.deref-2.result.now = search rules in
     let asked = map string_bytes c.deref-2.result.now in
-    let marked = with_items_is (with_items head.marks c.find_clocks.new.marks) c.select.new.marks (c.select.auto.marks ∙ c.deref_mut-4.ensures.len) in
-    let flagged = with_items_is (with_items head.flags c.find_clocks.new.flags) c.flag_codes.new.flags (c.flag_codes.auto.flags ∙ c.deref_mut-5.ensures.len) in
-    let set = with_items_is c.in_ok-memory.memory.roles c.set_roles.new.roles (c.set_roles.auto.roles ∙ c.deref_mut-7.ensures.len) in
-    let many : length c.deref_mut-7.result.now ≡ length c.args.view.codes.now = search rules in
+    let marked = with_items_is head.marks c.select.new.marks (c.select.auto.marks ∙ c.deref_mut-2.ensures.len) in
+    let flagged = with_items_is head.flags c.flag_codes.new.flags (c.flag_codes.auto.flags ∙ c.deref_mut-3.ensures.len) in
+    let set = with_items_is c.in_ok-memory.memory.roles c.set_roles.new.roles (c.set_roles.auto.roles ∙ c.deref_mut-5.ensures.len) in
+    let many : length c.deref_mut-5.result.now ≡ length c.args.view.codes.now = search rules in
     let fresh = c.set_roles.ensures.fresh h asked (subst (AreFlags h asked) (sym (c.deref-4.ensures.value ∙ flagged))
     (c.flag_codes.ensures.flags h asked views (c.deref-3.ensures.value ∙ marked ∙ c.in_default-select.ensures.marks h views)))
     (many ∙ sym (AllZip-long (IsCode c.args.view.text.now) c.args.view.codes.now h.codes views.codes)) in (
       c.places_of-places.ensures h views,
-      subst (λ l. AreFresh h (map string_bytes l) c.deref_mut-11.result.now) (sym names) (subst (AreFresh h asked) (sym (c.deref_mut-11.ensures.value ∙ set)) fresh),
+      subst (λ l. AreFresh h (map string_bytes l) c.deref_mut-9.result.now) (sym names) (subst (AreFresh h asked) (sym (c.deref_mut-9.ensures.value ∙ set)) fresh),
     )
