@@ -65,11 +65,10 @@ class _Part:
     or a comparison reads what it writes, a fault comes after that: an end would seem to be that of
     the dump."""
 
-    answer = 0  # the greatest status that is an answer and no failure
-
     def __init__(self, words: Sequence[str], stdin: BinaryIO, names: Dict[str, str],
-                 of: Optional[Text], pass_fds: Sequence[int] = (), is_merged: bool = False):
+                 of: Optional[Text], pass_fds: Sequence[int], is_merged: bool, answer: int):
         self.words, self.names, self.of = words, names, of
+        self.answer = answer  # the greatest status that is an answer and no failure
         # A file, as a pipe holds only some of a message that nobody reads before the output.
         self.messages: IO[bytes] = (open(os.memfd_create("messages"), "w+b")
                                     if hasattr(os, "memfd_create") else unnamed_file())
@@ -90,7 +89,7 @@ class _Part:
     def _mark_failure(self, writer: int) -> None:
         """Writes a fault if it fails, and closes the pipe."""
         with contextlib.suppress(OSError):  # nobody may read on
-            if self.process.wait():
+            if not 0 <= self.process.wait() <= self.answer:
                 os.write(writer, FAULT)
         os.close(writer)
 
@@ -132,11 +131,11 @@ class _Pipe:
         progress.running.append(self.part_read)
 
     def start(self, words: Sequence[str], stdin: BinaryIO, names: Dict[str, str],
-              of: Optional[Text], pass_fds: Sequence[int] = (), is_merged: bool = False
-              ) -> BinaryIO:
+              of: Optional[Text], pass_fds: Sequence[int] = (), is_merged: bool = False,
+              answer: int = 0) -> BinaryIO:
         """Starts a program, and returns what it writes."""
         with stdin:
-            self.parts.append(_Part(words, stdin, names, of, pass_fds, is_merged))
+            self.parts.append(_Part(words, stdin, names, of, pass_fds, is_merged, answer))
         return self.parts[-1].out
 
     def feed(self, text: Text, is_merged: bool = False) -> BinaryIO:
@@ -169,11 +168,11 @@ class _Pipe:
         try:
             out = self.start(words, files[0], dict(zip(["(stdin)", *names], (
                 one.name for one in text.of))), None if is_compared else text.of[0],
-                             [file.fileno() for file in files[1:]], is_merged)
+                             [file.fileno() for file in files[1:]], is_merged,
+                             int(other is not None))  # a difference, or no edge
         finally:
             for file in files[1:]:
                 file.close()
-        self.parts[-1].answer = int(is_compared)
         return out
 
     def _name_of(self, file: BinaryIO) -> str:

@@ -255,9 +255,13 @@ class Source:
         """Returns the dump of what names select, all without names, just before each of some edges:
         its times are the numbers of these, and the time of each is its first change."""
         paths = dict.fromkeys(path for path, *_ in edges)
-        # Only words of UTF-8 can be given to a program, so a clock may need another name.
+        # Only words of UTF-8 can be given to a program, and a signal may have the whole word as its
+        # path, so a clock may need another name.
+        others = set(self.signals.columns()[0]).intersection(
+            "%s@%d" % (path, place) for path, place, _ in edges)
         new = {path: "~" * (1 + max(map(len, self.signals.columns()[0]))) + str(at)
-               for at, path in enumerate(paths) if utf8_names([path]) != [path]}
+               for at, path in enumerate(paths) if utf8_names([path]) != [path]
+               or any(one.rpartition("@")[0] == path for one in others)}
         words = [word for path, place, falls in edges for word in (
             "--fall" if falls else "--rise", "%s@%d" % (new.get(path, path), place))]
         its = utf8_names(self.full([*names, *paths])) if names else []
