@@ -12,11 +12,14 @@ const AFTER: &str = "Examples:
   vcdkit-compare -i sim.vcd --except tb.a.debug tb.a=tb.b
 
 X and Y are variables, or scopes with everything in them. Each variable that X
-selects is compared with the one whose path has Y in place of X. The first =
-ends X. Times are in ticks.
+selects is compared with the one whose path has Y in place of X. X ends at the
+first =. Times are in ticks.
 
---except skips each pair whose X variable NAME selects. A Y variable is skipped
-only if it has no partner.
+--except skips each pair whose X variable NAME selects. A name of Y skips only
+variables without a counterpart.
+
+The last values of a dump that ends early are compared up to the end of the
+other one. To stop earlier, set --to.
 
 In a script, use bash's 'set -o pipefail', so that a failed merge fails the
 pipe. The script vcdkit-diff does the merge and the comparison of two files.
@@ -24,8 +27,9 @@ pipe. The script vcdkit-diff does the merge and the comparison of two files.
 Exit status:
   0  no difference, and at least one pair was compared
   1  a difference, or no pair was compared
-  2  not a valid dump: the message says where and why; or a usage error, also a
-     name that selects nothing, or a --from after the end of the dump
+  2  not a valid dump: the message says where and why; or a usage error,
+     including a name that selects nothing, or a --from after the end of the
+     dump
   3  I/O error or out of memory";
 
 /// Returns the definition of an option `--NAME` without a value, where NAME is `name`, for `clap`,
@@ -63,12 +67,13 @@ fn with_lines<'a>(alloc: Global, program: Command<'a>) -> Result<Command<'a>, Al
         "first",
         "Stop after the first time at which a pair differs",
     );
+    let program = program.arg(first)?;
     let always = flag(
         alloc,
         "always",
-        "Also a line at each change while a pair differs",
+        "Write a line at each change while a pair differs",
     );
-    program.arg(first)?.arg(always)
+    program.arg(always)
 }
 
 /// Returns the definition of the program with the options that say which values are compared, and
@@ -83,11 +88,14 @@ fn with_values<'a>(alloc: Global, program: Command<'a>) -> Result<Command<'a>, A
         "0",
         "The first time at which values are compared",
     );
+    let program = program.arg(from)?;
     let greatest = "18446744073709551615";
     let to = time(alloc, "to", greatest, "The last time [default: the end]");
+    let program = program.arg(to)?;
     let x_of_a = flag(alloc, "x-of-a", "An x of X matches every digit");
+    let program = program.arg(x_of_a)?;
     let x_of_b = flag(alloc, "x-of-b", "An x of Y matches every digit");
-    program.arg(from)?.arg(to)?.arg(x_of_a)?.arg(x_of_b)
+    program.arg(x_of_b)
 }
 
 /// Returns the definition of the option `--except` for `clap`.
