@@ -6,30 +6,12 @@
 #[cfg(test)]
 mod again;
 #[cfg(test)]
-mod check;
-#[cfg(test)]
-mod cut;
+mod broken;
 #[cfg(test)]
 mod devices;
 #[cfg(test)]
-mod edges;
-#[cfg(test)]
 mod evaluator;
-#[cfg(test)]
-mod headers;
-#[cfg(test)]
-mod list;
-#[cfg(test)]
-mod merge;
 #[cfg(test)]
 mod messages;
 #[cfg(test)]
-mod pick;
-#[cfg(test)]
-mod produced;
-#[cfg(test)]
 mod runs;
-#[cfg(test)]
-mod sample;
-#[cfg(test)]
-mod written;
