@@ -42,13 +42,13 @@ pub compare-process-of : {P F I B K W E : Type 0} (p : Ghosts P F I B K) (f : Re
     (e : Sinks E) (sends : E → Bool → E → Type 0) (process process' : P) (out out' : W) (err err' : E) (status : ℕ)
     → Delivers e.device sends (λ shown. RunsAs compare_program p f i w flushes process process' out out' (e.device err) shown status) err'
     → ReliesOnProcess compare_told p f i w flushes e sends process process' out out' err err' status
-compare-process-of = one-process-of (codes "vcdkit-compare") (λ n. n ≤ 1) compare_speech compare_work compare_app comparing.Asks compare.outcome_of
+compare-process-of = one-process-of (codes "vcdkit-compare") (λ n. n ≤ 1) compare_speech compare_work (λ job. 1048576) compare_app comparing.Asks compare.outcome_of
 
 pub strobe-process-of : {P F I B K W E : Type 0} (p : Ghosts P F I B K) (f : Reads F) (i : Reads I) (w : Sinks W) (flushes : W → Bool → W → Type 0)
     (e : Sinks E) (sends : E → Bool → E → Type 0) (process process' : P) (out out' : W) (err err' : E) (status : ℕ)
     → Delivers e.device sends (λ shown. RunsAs strobe_program p f i w flushes process process' out out' (e.device err) shown status) err'
     → ReliesOnProcess strobe_told p f i w flushes e sends process process' out out' err err' status
-strobe-process-of = one-process-of (codes "vcdkit-strobe") (λ n. n ≡ 0) strobe_speech strobe_work strobe_app strobing.Asks strobe.outcome_of
+strobe-process-of = one-process-of (codes "vcdkit-strobe") (λ n. n ≡ 0) strobe_speech strobe_work (λ job. job.limit) strobe_app strobing.Asks strobe.outcome_of
 
 -- ---- in memory
 
@@ -103,7 +103,7 @@ on-compare = relies compare_program _ _ (λ matches. refl)
 pub on-strobe : (words : List Text) (files : List MemoryFile) (input : Text) (left : End) → IsLeftBy strobe_program words files input left
     → ReliesOnStrobe words files input left
 on-strobe = relies strobe_program _ _ (λ matches. refl)
-    (λ matches job name i is. (strobe_in job, is, ap (λ r. strobe.outcome_if r (name ∷ []) (i ∷ [])) is)) refuses
+    (λ matches job name i is. ((strobe_in job, job.limit), is, ap (λ r. strobe.outcome_if r (name ∷ []) (i ∷ [])) is)) refuses
   where
     refuses : (matches : ArgMatches) (f : UseFault) → strobe_program.asks matches (Err f) → f ≢ use_fault.OutOfMemory
         → (why : Text) × (strobe_asked matches ≡ Err why) × (strobe.outcome_of matches [] [] ≡ record { output = []; message = why; status = 2 })

@@ -319,7 +319,7 @@ pub process-of : {P F I B K W E : Type 0} (p : Ghosts P F I B K) (f : Reads F) (
     → ReliesOnProcess vcdkit_told p f i w flushes e sends process process' out out' err err' status
 process-of = process-by vcdkit_program vcdkit_told vcdkit-keeps
 
-module _ {Q J R : Type 0} (program : Text) (may : ℕ → Type 0) (speech : J → Speech R) (work : J → Work) (app : App)
+module _ {Q J R : Type 0} (program : Text) (may : ℕ → Type 0) (speech : J → Speech R) (work : J → Work) (limit : J → ℕ) (app : App)
     (asks : ArgMatches → Result J UseFault → Type 0) (outcome : ArgMatches → List Text → List Input → Outcome) where
   -- what a program over one input says of itself
   abbrev one_program : Programs Q J
@@ -331,20 +331,20 @@ module _ {Q J R : Type 0} (program : Text) (may : ℕ → Type 0) (speech : J �
     outcome = outcome;
     refusal = use_outcome;
     ends = λ job. EndsAlone program may (speech job);
-    reads = λ job ended texts. ReadsOne (work job) 1048576 65536 ended;
+    reads = λ job ended texts. ReadsOne (work job) (limit job) 65536 ended;
   }
 
-  one-keeps : Keeps one_program (one_told program may speech work app asks outcome)
+  one-keeps : Keeps one_program (one_told program may speech work limit app asks outcome)
   one-keeps = record {
     asks = λ matches job is. is;
     faulty = λ matches f is other. (f, is);
     ends = λ job names before after last_failed out out' err err' status ends. ends;
     over = λ job due_of out out' err err' status texts old new leaves.
-        over-only program (work job) 1048576 65536 due_of out out' err err' status texts old new leaves;
+        over-only program (work job) (limit job) 65536 due_of out out' err err' status texts old new leaves;
   }
 
   pub one-process-of : {P F I B K W E : Type 0} (p : Ghosts P F I B K) (f : Reads F) (i : Reads I) (w : Sinks W) (flushes : W → Bool → W → Type 0)
       (e : Sinks E) (sends : E → Bool → E → Type 0) (process process' : P) (out out' : W) (err err' : E) (status : ℕ)
       → Delivers e.device sends (λ shown. RunsAs one_program p f i w flushes process process' out out' (e.device err) shown status) err'
-      → ReliesOnProcess (one_told program may speech work app asks outcome) p f i w flushes e sends process process' out out' err err' status
-  one-process-of = process-by one_program (one_told program may speech work app asks outcome) one-keeps
+      → ReliesOnProcess (one_told program may speech work limit app asks outcome) p f i w flushes e sends process process' out out' err err' status
+  one-process-of = process-by one_program (one_told program may speech work limit app asks outcome) one-keeps

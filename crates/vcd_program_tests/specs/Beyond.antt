@@ -18,7 +18,7 @@ use Rattle.vcdkit_compare.specs.Calls.{speech_in as compare_speech}
 use Rattle.vcdkit_compare.specs.Work.{work_in as compare_work}
 use Rattle.vcd_strobe_words.specs.Asked.{Asks as StrobingAsks, strobe_asked}
 use Rattle.vcd_strobe_words.specs.Words.{strobe_app}
-use Rattle.vcd_strobe_words.specs.declared.job.Strobing.{Strobing}
+use Rattle.vcd_strobe_words.specs.declared.strobing.Strobing.{Strobing}
 use Rattle.vcdkit_strobe.specs.Program.{outcome_of as strobe_outcome}
 use Rattle.vcdkit_strobe.specs.Calls.{speech_in as strobe_speech}
 use Rattle.vcdkit_strobe.specs.Work.{work_in as strobe_work}
@@ -32,10 +32,10 @@ use Rattle.vcd_program_tests.specs.Relies.{Told, one_told}
 -- ---- over a process
 
 abbrev pub compare_told : Told Comparing
-compare_told = one_told (codes "vcdkit-compare") (λ n. n ≤ 1) compare_speech compare_work compare_app ComparingAsks compare_outcome
+compare_told = one_told (codes "vcdkit-compare") (λ n. n ≤ 1) compare_speech compare_work (λ job. 1048576) compare_app ComparingAsks compare_outcome
 
 abbrev pub strobe_told : Told Strobing
-strobe_told = one_told (codes "vcdkit-strobe") (λ n. n ≡ 0) strobe_speech strobe_work strobe_app StrobingAsks strobe_outcome
+strobe_told = one_told (codes "vcdkit-strobe") (λ n. n ≡ 0) strobe_speech strobe_work (λ job. job.limit) strobe_app StrobingAsks strobe_outcome
 
 -- ---- in memory
 
@@ -68,5 +68,5 @@ ReliesOnCompare words files input left = Relies (codes "vcdkit-compare") compare
 -- of vcdkit-strobe: the strobe that the words ask for, or the message about their fault
 abbrev pub ReliesOnStrobe : (words : List Text) → List MemoryFile → (input : Text) → End → Type 0
 ReliesOnStrobe words files input left = Relies (codes "vcdkit-strobe") strobe_app
-    (λ matches name i o. (asked : _) × (strobe_asked matches ≡ Ok asked) × (o ≡ strobe asked 1048576 name i))
+    (λ matches name i o. (asked : _) × (strobe_asked matches ≡ Ok asked) × (o ≡ strobe asked.0 asked.1 name i))
     (λ matches o. (why : Text) × (strobe_asked matches ≡ Err why) × (o ≡ record { output = []; message = why; status = 2 })) words files input left

@@ -179,10 +179,11 @@ vcdkit_told = record {
 }
 
 -- What they rely on of a program over one input, of this name: the statuses that it may have, how a
--- job speaks, what it does, how it parses words, and the outcome of words that ask so for a job.
-abbrev pub one_told : {J R : Type 0} → (program : Text) → (may : ℕ → Type 0) → (speech : J → Speech R) → (work : J → Work) → App
+-- job speaks, what it does, its token limit, how it parses words, and the outcome of words that ask
+-- so for a job.
+abbrev pub one_told : {J R : Type 0} → (program : Text) → (may : ℕ → Type 0) → (speech : J → Speech R) → (work : J → Work) → (limit : J → ℕ) → App
     → (asks : ArgMatches → Result J UseFault → Type 0) → (outcome : ArgMatches → List Text → List Input → Outcome) → Told J
-one_told program may speech work app asks outcome = record {
+one_told program may speech work limit app asks outcome = record {
   name = program;
   app = app;
   inputs = λ matches. option_and_then input_named (file_asked matches) ∷ [];
@@ -191,7 +192,7 @@ one_told program may speech work app asks outcome = record {
   asks = λ matches job. asks matches (Ok job);
   faulty = λ matches. (fault : UseFault) × asks matches (Err fault);
   ends = λ job. EndsSo program may (speech job);
-  over = λ job. OverOnly program 1048576 65536 (settled_of (work job) [] declarations_allowed) (is_header_over declarations_allowed)
+  over = λ job. OverOnly program (limit job) 65536 (settled_of (work job) [] declarations_allowed) (is_header_over declarations_allowed)
       (due_of (work job) [] declarations_allowed);
 }
 
