@@ -91,12 +91,7 @@ fn index_in(size: usize, place: Option<u64>) -> Result<usize, NoClock>
 
 /// Returns the clock that is the bit at a place of the variable at index `row`. Fails if there is
 /// no such bit.
-fn bit_of(
-    view: HeadView<'_>,
-    row: usize,
-    place: Option<u64>,
-    falls: bool,
-) -> Result<Clock, NoClock>
+fn bit_of(view: HeadView<'_>, row: usize, place: Option<u64>, falls: bool) -> Result<Clock, NoClock>
     ensures { AnyVariable view.entry row (λ h v. FindsBit h v place falls result) }
 {
     let code = code_of(view, row);

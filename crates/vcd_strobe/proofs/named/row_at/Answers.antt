@@ -46,10 +46,10 @@ loop-row-preserved c = λ h views.
     elim c.match-first.branch [
       | in-None w ↦ subst (HasFirst h path (n + 1)) (sym w.first-is) (found_first h path n v.0 at e (subst (HasFirst h path n) w.in-None.is (c.loop-row.invariant h views)))
       | in-Some+else-code_of w ↦
-        let has : HasFirst h path n (Some w.in-Some.one) = subst (HasFirst h path n) w.in-Some.is (c.loop-row.invariant h views) in
-        subst (HasFirst h path (n + 1)) (sym w.first-is)
-            (same_first h path n v.0 at e w.in-Some.one w.code_of.result w.code_of-in-Some.result has (w.code_of.ensures h has.0 views has.2)
-            (w.code_of-in-Some.ensures h v.0 views at) w.if-code_of.false)
+          let has : HasFirst h path n (Some w.in-Some.one) = subst (HasFirst h path n) w.in-Some.is (c.loop-row.invariant h views) in
+          subst (HasFirst h path (n + 1)) (sym w.first-is)
+          (same_first h path n v.0 at e w.in-Some.one w.code_of.result w.code_of-in-Some.result has (w.code_of.ensures h has.0 views has.2)
+          (w.code_of-in-Some.ensures h v.0 views at) w.if-code_of.false)
     ]
 
 pub returns : goal.returns
