@@ -69,8 +69,8 @@ fn put_strobe_head<W: Sink>(
 
 /// Writes the head of a strobe of the variables that are marked (have 1 in `marks`, as `select`
 /// sets them), and the lines of all edges of the body that follows the header of `view`. `strobe`
-/// is one before the first item. Once the body was read to its end, its `edges` are 0 if and only if
-/// there was no edge.
+/// is one before the first item. Once the body was read to its end, its `edges` are 0 if and only
+/// if there was no edge.
 ///
 /// # Errors
 ///
