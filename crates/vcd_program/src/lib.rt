@@ -1,14 +1,14 @@
 //! Any program over any host: from its words to its output, its message and its status.
 //!
 //! A `Program` says how its words are parsed, which job they ask for and what outcome they have.
-//! `Vcdkit` is the program `vcdkit`; a `OneInputProgram`, whose job is a `OneInput` of `vcd_job`, is
-//! a program too. `run_program` parses the words, opens the inputs that they name, in order, runs
-//! the job over them, flushes the output and returns the status. A `Host` opens inputs, and an
-//! `Output` takes the output; both are in `vcd_host`. The contract says which inputs were opened, in
-//! which order and under which names. It also says what was left: the outcome that the program has
-//! for the words and the inputs, or the line and the status of what went wrong before (`Runs`). Over
-//! a host in memory the outcome is that of the words and the bytes of the files (`run_in_memory`,
-//! `run_into_memory`, `specs/Memory`).
+//! `Vcdkit` is the program `vcdkit`; a `OneInputProgram`, whose job is a `OneInput` of `vcd_job`,
+//! is a program too. `run_program` parses the words, opens the inputs that they name, in order,
+//! runs the job over them, flushes the output and returns the status. A `Host` opens inputs, and an
+//! `Output` takes the output; both are in `vcd_host`. The contract says which inputs were opened,
+//! in which order and under which names. It also says what was left: the outcome that the program
+//! has for the words and the inputs, or the line and the status of what went wrong before (`Runs`).
+//! Over a host in memory the outcome is that of the words and the bytes of the files
+//! (`run_in_memory`, `run_into_memory`, `specs/Memory`).
 //!
 //! # The modules
 //!
