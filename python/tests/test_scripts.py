@@ -346,7 +346,8 @@ class Messages(Case):
     def test_cut_off(self):
         with open("x.gz", "wb") as file:
             file.write(gzip.compress(TORN + os.urandom(9000).hex().encode())[:-4000])
-        self.assertIn("help:  vcdkit-explain --salvage LEFT.vcd x.gz", said("explain x.gz"))
+        self.assertIn("help:  vcdkit-explain --salvage LEFT.vcd x.gz    (saves what is before the "
+                      "break)", said("explain x.gz"))
         for added in b"#4", b"#":
             self.file("late", TORN + b"#40\n" + added)
             self.assertIn("cause: the dump is cut off", said("explain late"))
