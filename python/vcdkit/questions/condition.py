@@ -33,6 +33,9 @@ Read = Callable[[bytes], Value]
 Look = Tuple[int, body.Changes, int]  # a time, what changed, and the bits of clocks
 NONE: Tuple[int, List[Tuple[int, Read]]] = 0, []  # no condition, and nothing that reads
 RESULTS = {"countones": kind_of(32, True), "age": kind_of(64)}
+# What is 0 or 1, or a number, also if digits of its operands are x.
+SURE = {"countones", "onehot", "onehot0", "===", "!==", *(
+    sign for sign, one in OPERATORS.items() if sign.startswith("is") or one.has_past)}
 LEAF = Operator(tuple)  # a name, a number, or what is past: no operator
 
 
@@ -194,7 +197,9 @@ def _check(node: Node, works: Kind) -> None:
         shown = value if number.sign == "literal" and isinstance(value, int) else number.value
         if kind.width and sign not in MIRRORED and isinstance(value, float) and value % 1:
             raise bad("%s is never %s: it is a whole number" % (its, shown))
-        if is_never(sign.strip(), ends, converted(side.known, side.own, works), value, works):
+        is_sure = side.sign in SURE and sign in ("===", "!==") and isinstance(value, str)
+        if is_sure or is_never(sign.strip(), ends, converted(side.known, side.own, works), value,
+                               works):
             raise bad("%s is never %s%s: it %s" % (
                 its, sign.strip() + " " if sign in MIRRORED else "", shown,
                 "has %d bit%s%s" % (kind.width, "s" * (kind.width > 1),
