@@ -311,6 +311,8 @@ def ask_x(of: Asker) -> None:
         return
     if mode == "--first" and rows:
         notes = []
+    if not rows and "VerilatedVcd" in dump.notes.get("version", ""):
+        notes.append("Verilator wrote this dump: it simulates two states, so it has no x")
     messages = said.message.replace(file + ":", "").replace("vcdkit-x: ", "").splitlines()
     of.same("x", words, (said.status, got, said.about if fault else messages),
             (2 if fault else int(bool(rows)), wanted, fault or notes))
