@@ -6,7 +6,6 @@ import functools
 import io
 import os
 import re
-import stat
 import sys
 from typing import (TYPE_CHECKING, Any, Callable, Iterable, Iterator, List, NoReturn, Optional,
                     TextIO, Tuple)
@@ -326,20 +325,7 @@ def times_of(dump: "Source", asked: argparse.Namespace) -> Callable[[int], str]:
     return functools.partial(dump.time, unit=asked.unit or "")
 
 
-# Warnings, and what the shell calls.
-
-def warn_of_quotes(name: str, condition: str, dump: "Source") -> None:
-    """Warns if the output of a command goes to a file of the working directory whose name is a
-    number or a path of the dump: a shell takes `tb.q > 3` without quotes for such a file."""
-    try:
-        folder, file = os.path.split(os.readlink("/proc/self/fd/1"))
-        is_file = stat.S_ISREG(os.fstat(1).st_mode) and folder == os.getcwd()
-    except OSError:
-        return
-    if is_file and (re.match(r"\d\w*\Z", file) or file in dump.signals.columns()[0]):
-        print("%s: warning: the output goes to the file %s. For a comparison, put the condition in "
-              "single quotes: '%s > %s'" % (name, file, condition, file), file=sys.stderr)
-
+# Messages, and what the shell calls.
 
 def say(command_name: str, lines: Iterable[str]) -> None:
     """Writes messages, after the output."""

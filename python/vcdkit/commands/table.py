@@ -27,8 +27,7 @@ from typing import Any, Counter, List
 
 from ..forms.tables import bus_rows, cells_of, heads_of
 from ..forms.text import write_json
-from . import (command, dump_of, form_for, is_part, parser, part_of, times_at, warn_of_end,
-               warn_of_quotes)
+from . import command, dump_of, form_for, is_part, parser, part_of, times_at, warn_of_end
 
 
 def words_of(words: List[str]) -> argparse.Namespace:
@@ -75,8 +74,6 @@ def words_of(words: List[str]) -> argparse.Namespace:
 def main(words: List[str]) -> int:
     asked = words_of(words)
     times, whole = times_at(asked), dump_of(asked)
-    if asked.condition is not None:
-        warn_of_quotes("vcdkit-table", asked.condition, whole)
     channels = asked.channels or [("time", "", "", asked.names)]
     columns = [[one for one in whole.select(names) if one.type != "event"]
                for *_, names in channels]

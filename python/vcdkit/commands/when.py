@@ -29,7 +29,7 @@ from ..forms.text import counted, mean_text, write_json
 from ..questions.dump import Dump
 from ..questions.when import Asked, Question, Questions, named
 from ..reading.files import lines_in
-from . import FAULT, dump_of, parser, part_of, question, times_of, warn_of_quotes
+from . import FAULT, dump_of, parser, part_of, question, times_of
 
 WORDED = re.compile(r"(never +|always +|each +|)(.*)", re.S)
 
@@ -201,8 +201,6 @@ def answer(asked: argparse.Namespace, tests: List[Test]) -> int:
     rules = (rules_of(asked.rules) if asked.rules is not None
              else [Asked("", asked.condition)])
     dump = dump_of(asked)
-    if asked.condition is not None:
-        warn_of_quotes("vcdkit-when", asked.condition, dump)
     text = times_of(dump, asked)
     asking = Questions(part_of(dump, asked), rules, asked.rise, asked.fall, asked.every, (),
                        asked.open_fails)
