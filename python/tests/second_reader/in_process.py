@@ -79,7 +79,8 @@ class Evaluator:
                   for at, (data, error) in enumerate(read)]
         status, out, said = self.run([text.command, *text.words], inputs)
         names = {name.decode(): one.name for (name, _), one in zip(inputs, text.of)}
-        found = error_of(said.decode(errors="backslashreplace"), status, names) if status else None
+        is_answer = status <= (text.command == "strobe")  # 1: no clock has an edge
+        found = None if is_answer else error_of(said.decode(errors="backslashreplace"), status, names)
         if isinstance(found, UnknownName):
             found.of = text.of[0]
         return out, next((error for _, error in read if error), found)
