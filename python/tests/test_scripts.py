@@ -420,18 +420,7 @@ class Answers(Case):
             with subprocess.Popen(["cat", "some.fst"], stdout=subprocess.PIPE) as cat:
                 self.assertEqual(said("values --at=600 - bench.slow", stdin=cat.stdout), wanted)
 
-    def test_words_in_any_order(self):
-        for name, words, more in (
-                ("values", "edge", "--at 30ns t.z"), ("x", "edge", "--from 1 t.q"),
-                ("diff", "edge edge", "--every t.q"), ("find", "edge", "--json q"),
-                ("explain", "edge", "--token-limit 99 edge"), ("table", "edge t.z", "--hex t.q"),
-                ("info", "", "--json edge"), ("wave", "edge t.z", "--light t.q"),
-                ("when", "edge", "--count t.q"), ("stats", "edge t.z", "--values 1 t.q")):
-            front, _, last = more.rpartition(" ")
-            wanted = said(" ".join([name, front, words, last]))
-            self.assertIn(wanted[-1], ("status 0", "status 1"))
-            for line in [name, words, more], [name, front, words, "--", last]:
-                self.assertEqual(said(" ".join(line)), wanted, line)
+    def test_conditions_that_begin_with_a_minus(self):
         for line, wanted in (("'-1 < t.q'", "'t.q>-1'"), ("-1<t.q --count", "--count -- -1<t.q"),
                              ("-t.q", "-- -t.q")):
             self.assertEqual(said("when edge " + line), said("when edge " + wanted))
@@ -479,7 +468,6 @@ class Answers(Case):
         self.file("saved", "[*]\n@22\n\u00e9[3:0]\nq[3:0]\n".encode())
         self.assertEqual(said("values --names saved a.vcd"),
                          ["\u00e9 0001", "q 0010", "status 0"])
-
 
     def test_salvage(self):
         whole = "#0;$dumpvars;0!;b11111111 @;$end;#5;1!;#15;0!;b1 @;#18;1!;#30;"
@@ -538,31 +526,6 @@ class Answers(Case):
         self.file("a.vcd", made(bus, "#0;0#;#9;1# bad;"))
         self.assertEqual(said("when --rise other --from 9 a.vcd 'age(other) == 9'"),
                          ["9ns", "status 2"])
-
-    def test_the_past_before_a_window(self):
-        """The clock rises at 100, 300, .. 1900, then at 500100, 500300, ..; q counts these."""
-        times = [*range(100, 2000, 200), *range(500100, 502000, 200)]
-        self.file("a.vcd", made("clk 1 c, q 8 q", "#0;0c;b0 q;" + "".join(
-            "#%d;1c;b%s q;#%d;0c;1e;" % (time, bin(at)[2:], time + 100)
-            for at, time in enumerate(times, 1)), "").replace(
-                b"$enddef", b"$var event 1 e go $end $enddef"))
-        for begin in 0, 1901, 500100, 500101:
-            for condition, wanted in (
-                    ("changed(q)", times), ("past(q) + 1 == q", times[1:]),
-                    ("past(q, 9) == 1", [500100]), ("past(past(q, 4), 9) == 0", [500700]),
-                    ("q == 11 & past(go)", [500300] if begin != 500100 else []),
-                    ("past(q, 30) is x", times)):
-                words, wanted = ["--rise", "clk", "--from", str(begin), "a.vcd"], [
-                    time for time in wanted if time >= begin]
-                self.assertEqual(said("when --every", *words, condition)[:-1],
-                                 list(map(str, wanted)), condition)
-                rows = said("table", *words, "--if", condition, "q")[1:-1]
-                self.assertEqual([int(row.partition(",")[0]) for row in rows], wanted)
-                part = Dump("a.vcd").cut(begin).pick(["clk", "q", "go"])
-                self.assertEqual(list(part.when(condition, rise="clk", every=True)), wanted)
-        self.file("rules", b"a@clk: changed(q)\nb@!clk: past(q, 2) == 8\n")
-        self.assertEqual(said("when --rules rules --from 1900 a.vcd")[:2],
-                         ["a: 1900, 1 time", "b: 2000, 1 time"])
 
 
 CLOCKED = "c 1 !, v 4 v"

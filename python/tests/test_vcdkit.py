@@ -144,40 +144,6 @@ class Questions(Case):
         self.assertEqual(repr([(*row,) for row in dump.cut(2, 4).rows(["q", "r"])]),
                          repr([(2, rows[1][1]), rows[2]]))
 
-    def test_rows_at_edges_of_a_window(self):
-        header = b'$var wire 1 ! c $end $var wire 2 " q $end $enddefinitions $end '
-        for body in (b'#0 0! b1 " #10 1! b10 " #20 0! #30 1! b11 " #40 0! #50 1! b0 "',
-                     b'#0 $dumpvars 0! b1 " $end 1! b10 " #20 0! #30 1! b11 " #40 0! #50 1!',
-                     b'0! b1 " 1! #0 0! #0 1! b0 " #30 0! b1 " 1! b11 "',  # a glitch
-                     b'#5 b1 " #30 0! 1! b11 " #40 $dumpall 0! b0 " $end #50 1! b1 "',
-                     b'#5 b1 " #30 $dumpvars 0! b11 " $end 1! #40 $dumpvars 0! b0 " $end',
-                     b'#30 $dumpvars 0! b11 " $end 1! #40 0! #50 $dumpvars 1! b0 " $end'):
-            for clock in {"rise": "c"}, {"fall": "c"}:
-                whole = list(Dump(header + body).rows(["q", "c"], **clock))
-                self.assertTrue(whole or "fall" in clock)
-                for begin in 0, 3, 5, 10, 15, 20, 25, 30, 31, 40:
-                    part = Dump(header + body).cut(begin, 45)
-                    wanted = [row for row in whole if begin <= row[0] <= 45]
-                    for one in part, Dump(part.read()):
-                        self.assertEqual(list(one.rows(["q", "c"], **clock)), wanted,
-                                         (body, begin))
-
-    def test_rows_at_edges_of_a_merge(self):
-        dump = Dump(b'$var wire 1 ! c $end $var wire 2 " q $end $enddefinitions $end '
-                    b'#0 0! b1 " #10 1! b10 " #20 0! #30 1! b11 " #40 0! #50 1! b0 "')
-        both = merge(dump.cut(30, 40), dump, dump.cut(10))
-        # A merge has no sections, so the values with which a cut begins have its first time.
-        for name, wanted in (("in1", [(30, [None])]), ("in2", [(10, [1]), (30, [2]), (50, [3])]),
-                             ("in3", [(10, [None]), (30, [2]), (50, [3])])):
-            self.assertEqual(list(both.rows(name + ".q", rise=name + ".c")), wanted)
-            self.assertEqual(list(merge(both).rows("in1.%s.q" % name, rise="in1.%s.c" % name)),
-                             wanted)
-            self.assertEqual(list(both.when(name + ".q == 2", rise=name + ".c")),
-                             [30][:name != "in1"])
-            for part in both.cut(30, 49), both.pick(["in1", "in2", "in3"]).cut(30, 49):
-                self.assertEqual(list(part.rows(name + ".q", rise=name + ".c")), [
-                    row for row in wanted if 30 <= row[0] <= 49])
-
     def test_names_that_are_not_utf_8(self):
         for scope in b"t", b"t\xff":
             dump = Dump(b'$scope module %s $end $var wire 1 ! a\xff $end $var wire 1 " b $end $var '
