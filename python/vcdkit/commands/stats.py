@@ -29,7 +29,7 @@ import sys
 from typing import Any, Dict, Iterator, List, Optional, Sequence
 
 from .. import __version__
-from ..errors import UsageError, VcdkitError
+from ..errors import UsageError
 from ..forms.text import AnyForm, counted, in_json, mean_text, shown, write_json
 from ..model.signals import Signal
 from ..model.times import Window
@@ -129,16 +129,6 @@ def write_bits(dump: Dump, window: Window, asked: argparse.Namespace) -> int:
     return int(asked.never and not all(bit.rises + bit.falls for bit in bits))
 
 
-@command
-def main(words: List[str]) -> int:
-    try:
-        return answer(words)
-    except VcdkitError as error:
-        if "--never-toggled" in words:
-            error.status = max(error.status, 2)  # 1 is an answer
-        raise
-
-
 def answer(words: List[str]) -> int:
     """Writes what is asked; returns the status."""
     options = parser("vcdkit-stats FILE NAME ..", __doc__)
@@ -179,3 +169,9 @@ def answer(words: List[str]) -> int:
             rest = len(its.values) - count
             print(*lines_of(dump, facts, rest, asked), sep="\n")
     return 0
+
+
+def main(words: Optional[List[str]] = None) -> int:
+    """Answers; with --never-toggled, a status of 1 is an answer."""
+    asked = sys.argv[1:] if words is None else words
+    return command(answer, 2 * ("--never-toggled" in asked))(words)

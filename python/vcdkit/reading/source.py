@@ -283,32 +283,30 @@ class Source:
         """Returns the dump from `before` before a time to `after`, else `before`, after it."""
         return self.cut(*self.window(time, before, after))
 
+    def _parts(self, *commands: str) -> Tuple[List[Made], Text]:
+        """Returns what some commands made, the last one first, and the text of which they did."""
+        parts, text = [], self.text
+        while isinstance(text, Made) and text.command in commands:
+            parts.append(text)
+            text = text.of[0]
+        return parts, text
+
     def whole(self, *commands: str) -> Text:
         """Returns the text of which some commands made this one."""
-        text = self.text
-        while isinstance(text, Made) and text.command in commands:
-            text = text.of[0]
-        return text
+        return self._parts(*commands)[1]
 
     def before(self: Its, time: int) -> Its:
         """Returns the dump of which it is a cut, up to before a time, with the signals that it
         has."""
-        text, picks = self.text, []
-        while isinstance(text, Made) and text.command in ("pick", "cut"):
-            picks += [text] * (text.command == "pick")
-            text = text.of[0]
-        for pick in reversed(picks):
-            text = pick._replace(of=(text,))
+        parts, text = self._parts("pick", "cut")
+        for part in reversed(parts):
+            text = part._replace(of=(text,)) if part.command == "pick" else text
         return self.like(text).cut(0, time - 1)
 
     def begin(self) -> int:
         """Returns the tick with which it begins: 0, unless it is a cut."""
-        text, begins = self.text, [0]
-        while isinstance(text, Made) and text.command in ("pick", "cut"):
-            if text.command == "cut":
-                begins.append(self.ticks(text.words[text.words.index("--from") + 1], is_up=True))
-            text = text.of[0]
-        return max(begins)
+        words = [part.words for part in self._parts("pick", "cut")[0] if part.command == "cut"]
+        return max((self.ticks(its[its.index("--from") + 1], True) for its in words), default=0)
 
     # Faults.
 
