@@ -2,3 +2,4 @@ mod WorkLemmas
 mod EndLemmas
 mod BoundLemmas
 mod ProgramLemmas
+pub mod MessageLines

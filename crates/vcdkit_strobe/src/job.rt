@@ -152,13 +152,13 @@ fn put_no_clock<E: Sink>(word: &[u8], why: NoClock, err: &mut E) -> Result<(), W
 }
 
 /// Writes the line that the dump of this name has no edge. Fails if a write does.
-fn put_no_edge<E: Sink>(name: &str, err: &mut E) -> Result<(), WriteFailed>
+fn put_no_edge<E: Sink>(name: &[u8], err: &mut E) -> Result<(), WriteFailed>
     requires { (E.device err.old).failures < 2 ^ 64 - 1 }
     ensures { PutsTo E.device err.old err.new
         (program_line program_name (no_edge name.now).message) result }
 {
     put(err, b"vcdkit-strobe: ")?;
-    put(err, name.as_bytes())?;
+    put(err, name)?;
     put(err, b": no edge\n")
 }
 
@@ -236,7 +236,7 @@ impl OneInput for VcdkitStrobe {
                 2
             }
             Refusal::NoEdge => {
-                let _ = put_no_edge(name, err);
+                let _ = put_no_edge(name.as_bytes(), err);
                 1
             }
         }

@@ -1,7 +1,6 @@
 use Rattle.std.proofs.Common.{◌≡◌, ◌∙◌, Err, ap, length, map, refl, rules, slice_get, string_bytes, subst, sym}
 use Rattle.std.proofs.lemmas.List.{with_items_is}
 use Rattle.std.proofs.lemmas.Slice.Zip.{AllZip-long}
-use Rattle.std.specs.Vec.{with_items}
 use Rattle.vcd_head.specs.Marks.{AreFlags, marks_of}
 use Rattle.vcd_model.specs.Selection.{first_unmatched}
 use Rattle.vcd_model.specs.Strobe.{clocks_of, no_clock}
