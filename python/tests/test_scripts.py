@@ -653,6 +653,18 @@ class Two(Case):
                  "b.vcd: it has no time in this window: its ticks are 1us")):
             self.assertEqual(run("vcdkit-diff", words.split())[::2], (
                 2, b"vcdkit-diff: %s\n" % message.encode()))
+        # An event counts from --from on.
+        event = (b"$timescale 1 ns $end $var wire 1 ! c $end $var event 1 e v $end "
+                 b"$enddefinitions $end ")
+        self.file("d.vcd", event + b"#0 0! #2 1e #4 #5 1!\n")
+        self.file("e.vcd", event + b"#0 0! #2 #4 #5 1!\n")
+        for begin, lines in (2, ["differs 5ns v triggered -", "status 1"]), (3, ["status 0"]):
+            self.assertEqual(said("diff --rise c --from %dns d.vcd e.vcd" % begin), lines)
+        # A signal may have a clock's whole word as its path.
+        self.file("f.vcd", b"$var wire 1 ! c $end $var wire 1 d c@0 $end $enddefinitions $end "
+                  b"#0 0! 1d #5 1! #7 0! 0d #9 1!\n")
+        self.assertEqual(said("table --rise c f.vcd c@0"), [
+            "time (tick),c@0", "5,1", "9,0", "status 0"])
         for clock in "c", "w[2]":
             self.assertEqual(said("diff --always --rise %s a.vcd c.vcd" % clock), [
                 "differs 5us v 0000 001x", "status 1"])

@@ -264,7 +264,8 @@ class Source:
                or any(one.rpartition("@")[0] == path for one in others)}
         words = [word for path, place, falls in edges for word in (
             "--fall" if falls else "--rise", "%s@%d" % (new.get(path, path), place))]
-        its = utf8_names(self.full([*names, *paths])) if names else []
+        its = [one for one in utf8_names(self.full([*names, *paths])) if one not in new] \
+            if names else []
         words += ["--", *its, *(new.values() if its else ())]
         text = self.cut().text if new or self.options else self.text
         if not new:
