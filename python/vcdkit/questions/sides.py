@@ -10,7 +10,7 @@ from ..model.names import (bare, field_of, fronts, full_names, hint, names_for, 
 from ..model.signals import Signal
 from ..model.values import Report
 from ..reading import header
-from ..reading.comparing import header_of, raw_header
+from ..reading.comparing import header_of
 from ..reading.source import Edge, Source
 from ..reading.texts import Headed, Made, Text
 from .picked import MAX_NAMES
@@ -27,7 +27,7 @@ class Side:
 
     def __init__(self, dump: Source, report: Report, scope: str, columns: Sequence[List[Any]]):
         self.dump, self.report, self._scope = dump, report, scope
-        self.scale = dump.known_scale = header.Head(raw_header(dump)).facts.timescale
+        self.scale = dump.timescale
         paths, self.types, _, self.codes = columns
         self.paths = [path[len(scope) + 1:] for path in paths]
         self.mapped: Set[str] = set()

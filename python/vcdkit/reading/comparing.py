@@ -19,16 +19,6 @@ def header_of(dumps: Sequence[Source]) -> bytes:
     return text
 
 
-def raw_header(dump: Source) -> bytes:
-    """Returns a text that begins with the header of a valid dump, as another program wrote it."""
-    text = b""
-    for block in dump.like(dump.whole("cut")).blocks():
-        text += block
-        if header.LAST in text:
-            break
-    return text
-
-
 def lines(words: Sequence[str], merged: Text) -> Iterator[List[bytes]]:
     """Returns the words of each line that vcdkit-compare writes of the dumps in a merge."""
     with program.opened(Made("compare", (*words, "in1=in2"), (merged,))) as out:

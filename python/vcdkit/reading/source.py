@@ -27,7 +27,6 @@ class Source:
         were read, of texts without cuts, which have the same header."""
         self.text, self.options, self._heads = text, options, {} if heads is None else heads
         self._last: Tuple[List[str], Dict[int, Signal]] = [], {}  # names, and what they select
-        self.known_scale: Optional[Timescale] = None  # so that no header has to be read for it
 
     def like(self: Its, text: Text) -> Its:
         """Returns what can be read of another text, with the same options."""
@@ -128,7 +127,7 @@ class Source:
     @property
     def timescale(self) -> Optional[Timescale]:
         """How long a tick is, as str() shows it: `100ps`. `None` if the header does not say."""
-        return self.known_scale or self.header.timescale
+        return self.header.timescale
 
     @property
     def tree(self) -> Scope:
