@@ -491,42 +491,6 @@ class Answers(Case):
                 if body[0] == "#" and "#1.5" not in body:
                     self.assertIn("last %d" % last, said("explain good"))
 
-    def test_conditions(self):
-        """When conditions hold, before a fault and in a window too; - is for no time."""
-        bus = "req 1 !, ack 1 @, other 1 #"
-        late, event = "#0;1!;0@;#10;1#;#20;0#;", "#0;0!;1e;#5;1!;#9;1e;#10;"
-        for variables, body, rows in (
-                ("a 2 !, b 4 @", "#0;b101 @;#5;b1 !;", (
-                    ("(a | b) >> 2 == 1", "0ns"), ("(a | b) == 5", "5ns"), ("a === 1", "5ns"),
-                    ("a !== 3 & b === 5", "0ns"))),
-                *((bus, late + end, [
-                    *(("!(req -> ack within %s)" % within, "0ns") for within in (
-                        "5ns", "19ns", "20ns")), ("!(req -> ack within 25ns)", at_25)])
-                  for end, at_25 in (("#30;q!;", "0ns"), ("#1x0;", "-"))),
-                (bus, event, [
-                    *(("--from %s %s" % (begin, condition), found) for begin, its in (
-                        ("7", "7ns"), ("9", "-"), ("0", "5ns")) for condition, found in (
-                            ("'req & !go'", its), ("!go", "-"), ("'!go | ack === 1'", "-")))])):
-            text = made(variables, body)
-            self.file("a.vcd", text.replace(b"$enddef", b"$var event 1 e go $end $enddef"))
-            for line, found in rows:
-                words = shlex.split(line) if line[:2] == "--" else [line]
-                self.assertEqual(said("when a.vcd", *words)[:-1], [found] * (found != "-"), line)
-        for end, at_9 in ("#11;#7;", ["9,3"]), ("#11;q;", ["9,3"]), ("#7;", []):
-            self.file("a.vcd", made("a 4 !", "#0;b1 !;#5;b10 !;#9;b11 !;" + end))
-            for name in "a", "b = a":  # an expression has the rows that a name has
-                self.assertEqual(said("table --decimal a.vcd", name)[1:],
-                                 ["0,1", "5,2", "9,3", "status 1"])
-                self.assertEqual(said("table --decimal --at 5,9,11 a.vcd", name)[1:],
-                                 ["5,2", *at_9, "status 1"])
-        # A signal without a value is x, and an expression has none before one of its signals has.
-        self.file("a.vcd", made("a 1 !, q 2 @, p 2 #", "#0;1!;#5;b11 @;#7;b1 #;"))
-        self.assertEqual(said("table a.vcd", "b = a ? q : p", "c = q", "d = {p}")[1:-1], [
-            "0,xx,-,-", "5,11,11,-", "7,11,11,01"])
-        self.file("a.vcd", made(bus, "#0;0#;#9;1# bad;"))
-        self.assertEqual(said("when --rise other --from 9 a.vcd 'age(other) == 9'"),
-                         ["9ns", "status 2"])
-
 
 CLOCKED = "c 1 !, v 4 v"
 EXCEPT = "--common --except c "
@@ -740,24 +704,10 @@ class Rules(Case):
 
     def test_rules(self):
         self.file("a.vcd", HEAD + b'#0 0! 0" #5 1! #7 1" #9 0! #12 1! #20\n')
-        text = ("# of req\nrises: req\n\nnot x: req is x\nlate: !(req -> ack within 2ns)\n"
-                "waits 1: !(req -> ack within 1ns)\n")
-        found = "rises: 5ns, 2 times\nwaits 1: 5ns, 1 time\n"
-        status, out, _ = self.rules(text, "--never", "--junit=j.xml", "a.vcd")
-        self.assertEqual((status, out), (1, found))
-        self.assertEqual(self.failed(), [("rises", "5ns, 2 times"), ("waits 1", "5ns, 1 time")])
-        tests = xml.parse("j.xml").getroot()
-        self.assertEqual((tests.get("tests"), tests.get("failures")), ("4", "2"))
         self.assertEqual(self.rules("\ufeffone: req\n", "a.vcd")[1], "one: 5ns, 2 times\n")
         # An event that is never triggered is never looked at.
         self.assertEqual(self.rules("a: req\nnone: !go\n", "a.vcd")[:2], (1, "a: 5ns, 2 times\n"))
-        self.file("fault.vcd", HEAD + b"#0 0! #5 1! #7 ?\n")
-        status, out, _ = self.rules(text, "--never", "--junit=j.xml", "fault.vcd")
-        self.assertEqual((status, out), (2, found.replace("2 times", "1 time")))
-        self.assertEqual(self.failed(), [("rises", "5ns, 1 time"), ("waits 1", "5ns, 1 time")])
-        self.assertEqual([name for name, _ in self.failed("error")], ["fault"])
-        # What --first or a fault leaves undecided is skipped.
-        self.assertEqual([name for name, _ in self.failed("skipped")], ["not x", "late"])
+        # What --first leaves undecided is skipped.
         self.rules("a: never req\nb: always req is x\nc: !req\n", "--first", "--junit=j.xml",
                    "a.vcd")
         self.assertEqual([[name for name, _ in self.failed(tag)] for tag in ("failure", "skipped")],
