@@ -204,7 +204,8 @@ class Questions:
         """Returns why a condition was never evaluated; an empty text if it was. That an event is
         not triggered is known at each time, but what has to hold `always` needs a trigger."""
         one = self.each[number]
-        is_known = self._evaluated & one.condition.bit or one.asked.word != "always" and (
+        is_found = self._evaluated & one.condition.bit or one.surplus  # an answer may hold of x
+        is_known = is_found or one.asked.word != "always" and (
             self.conditions.with_events & one.condition.bit and self.dump.check().last is not None)
         why = ("its clock has no edge" if one.clock and not self.counts[one.clock] else
                "" if is_known else "none of its signals has a value or a trigger")
