@@ -305,7 +305,8 @@ MESSAGES = [
     ("table --at - - req", 2, "--at: standard input has the dump")]
 # A condition on the file bits, and its message.
 CONDITIONS = [
-    ("q === 16", "q is never 16: it has 4 bits"), ("q < -8", "is never < -8: it has 4 bits, signed"),
+    ("q === 16", "q is never 16: it has 4 bits"),
+    ("q < -8", "is never < -8: it has 4 bits, signed"),
     ("q < 0", "bad condition: q is never < 0: a dump has no signs; write signed(q)"),
     ("past(q) == 1", NO_CLOCK), ("{q} == 16", "the other side is never 16: it is from 0 to 15"),
     ("q == 4'b1x0z", "nothing is == digits with x or z: write ==="), ("r[9:1] >= 0", "has no bits"),

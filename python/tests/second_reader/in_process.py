@@ -80,7 +80,8 @@ class Evaluator:
         status, out, said = self.run([text.command, *text.words], inputs)
         names = {name.decode(): one.name for (name, _), one in zip(inputs, text.of)}
         is_answer = status <= (text.command == "strobe")  # 1: no clock has an edge
-        found = None if is_answer else error_of(said.decode(errors="backslashreplace"), status, names)
+        found = None if is_answer else error_of(
+            said.decode(errors="backslashreplace"), status, names)
         if isinstance(found, UnknownName):
             found.of = text.of[0]
         return out, next((error for _, error in read if error), found)

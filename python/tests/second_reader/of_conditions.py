@@ -11,7 +11,8 @@ from conditions import Condition, Conditions, Operand, quoted
 from dumps import UNITS, Dump
 from expressions import (COUNTS, LEVEL, LEVELS, ORDERS, Expression, based, braces, chosen, counted,
                          fixed, inside, joined, past, read_as, unary)
-from looks import (Edges, Look, Span, Wait, facts_of, in_order, looks_at_changes, looks_at_edges, starts, waits)
+from looks import (Edges, Look, Span, Wait, facts_of, in_order, looks_at_changes, looks_at_edges,
+                   starts, waits)
 from shown import all_from_json
 
 MARKS = "!\"#$%&'()*+,-./:;<=>?@[\\]^_`{|}~0\u00e9\u2211"
