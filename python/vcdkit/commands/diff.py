@@ -97,7 +97,7 @@ def compare(asked: argparse.Namespace, report: Lines) -> None:
     say_headers(report, sides, comparison, asked.common)
     exceptions = Exceptions(asked.waive, lambda name: set().union(*(
         side.selected([name])[name] for side in sides)))
-    waived = comparison.count(exceptions.covers)
+    waived = comparison.count(exceptions.of)
     say_compared(report, sides, pairs - waived, waived, [])
     if pairs - waived < asked.least:
         raise UsageError("%s: --at-least asks for %d" % (report.compared, asked.least))
@@ -117,7 +117,7 @@ def compare(asked: argparse.Namespace, report: Lines) -> None:
     if not report.differs():
         if pairs == waived:
             raise UsageError("no variable is compared" + ": all are waived" * bool(waived))
-        if not comparison.has_value(exceptions.covers):
+        if not comparison.has_value(exceptions.of):
             raise UsageError("no variable has a value where they are compared")
     if found and asked.context:
         write_parts(report, sides, found[0].times, spans, asked.into or ".")

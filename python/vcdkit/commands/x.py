@@ -55,7 +55,7 @@ def answer(asked: argparse.Namespace, tests: List[Test]) -> int:
             signals.setdefault(one.code.encode(), []).append(one)
     exceptions = Exceptions(asked.waive, lambda name: [
         one.path for one in dump.select([name] if dump.has(name) else [])])
-    if signals and all(exceptions.covers(one.path) for its in signals.values() for one in its):
+    if signals and all(one.path in exceptions.of for its in signals.values() for one in its):
         raise UsageError("no signal is searched: all are waived")
     window = window_of(dump, asked)
     part = dump.cut(window.begin, window.last).part(asked.names)

@@ -6,8 +6,8 @@ import re
 from array import array
 from math import gcd, isclose, isnan
 from operator import itemgetter
-from typing import (TYPE_CHECKING, BinaryIO, Callable, Dict, Generator, Iterator, List, NamedTuple,
-                    Optional, Sequence, Set, Tuple)
+from typing import (TYPE_CHECKING, BinaryIO, Callable, Container, Dict, Generator, Iterator, List,
+                    NamedTuple, Optional, Sequence, Set, Tuple)
 
 from ..errors import RunFailed, UsageError
 from ..model.signals import Signal
@@ -101,12 +101,12 @@ class Comparison:
         if counts[0] != counts[1]:
             raise RunFailed("vcdkit-compare pairs %d signals with %d" % (counts[0], counts[1]))
 
-    def count(self, are: Callable[[str], bool]) -> int:
+    def count(self, some: Container[str]) -> int:
         """Returns how many pairs are compared of some names of A."""
         side = self._sides[0]
         others = [*self.alone[0], *(str(its[0]) for its in self.sizes)]
-        return sum(are(side.names[at]) for at in side.places) - sum(
-            are(side.owns(name)[0]) for name in others)
+        return sum(side.names[at] in some for at in side.places) - sum(
+            side.owns(name)[0] in some for name in others)
 
     def _called(self, path: bytes, at: int = 0, alone: Optional[List[str]] = None) -> str:
         """Returns the name of a dump's variable in a line; of one that is alone, after others."""
@@ -203,12 +203,12 @@ class Comparison:
         return min(self.window[1], *((side.report.last or 0) * factor for side, factor in zip(
             self._sides, self.factors)))
 
-    def has_value(self, is_waived: Callable[[str], bool]) -> bool:
+    def has_value(self, waived: Container[str]) -> bool:
         """Whether a pair has a value where it is compared, or is an event, if nothing differs. Some
         names do not count."""
         side = self._sides[0]
         lines = {at: name + side.behind(at) * (len(side.of_name[name]) > 1)
-                 for at in side.places for name in [side.names[at]] if not is_waived(name)}
+                 for at in side.places for name in [side.names[at]] if name not in waived}
         alone, every = (collections.Counter(its) for its in (self.alone[0], lines.values()))
         places = [at for at, line in lines.items() if alone[line] < every[line]]
         paths = [side.paths[at] for at in places]

@@ -39,7 +39,7 @@ class Exceptions:
 
     def __init__(self, path: Optional[str], selected: Callable[[str], Iterable[str]]):
         """`selected` returns the paths that a name selects; none if it selects nothing."""
-        self._of: Dict[str, str] = {}  # of each path the line that has it
+        self.of: Dict[str, str] = {}  # of each path that is an exception the line that has it
         self._lines: Dict[str, int] = {}  # of each line how many paths it selects
         self._left_out: Set[str] = set()
         for place, line in lines_in(path) if path is not None else ():
@@ -48,20 +48,16 @@ class Exceptions:
                 raise UsageError("%s%s: write the reason after the name" % (place, name))
             paths, place = {*selected(name)}, "%s%s: " % (place, name)
             self._lines[place] = len(paths)
-            self._of.update((one, place) for one in paths if one not in self._of)
-
-    def covers(self, path: str) -> bool:
-        """Whether a signal is an exception."""
-        return path in self._of
+            self.of.update((one, place) for one in paths if one not in self.of)
 
     def has(self, path: str) -> bool:
         """Whether a signal is an exception; notes that it is left out."""
-        self._left_out.update([path] if path in self._of else [])
-        return path in self._of
+        self._left_out.update([path] if path in self.of else [])
+        return path in self.of
 
     def notes(self) -> List[str]:
         """Returns for each line how many signals it leaves out, or a warning."""
-        counts = collections.Counter(self._of[path] for path in self._left_out)
+        counts = collections.Counter(self.of[path] for path in self._left_out)
         return ["%sleaves out %d of %d signals" % (place, counts[place], size) if counts[place] else
                 "warning: %s%s" % (place, "is not needed" if size else "selects nothing")
                 for place, size in self._lines.items()]
