@@ -72,7 +72,7 @@ module _ {P J : Type 0} (p : Programs P J) (IsDue : ArgMatches → (name : Text)
       → (text : Text) × (bytes_among files input (input_of matches) ≡ Some text)
       × ((o : Outcome) × IsDue matches (called (input_of matches)) (whole text) o × IsLeft p.name left (input_of matches ∷ []) o)
   by-texts matches job is [] have leaves = absurd (cc)
-  by-texts matches job is (text ∷ []) have leaves = (text, cc, _, due matches job (called (input_of matches)) (whole text) is, leaves)
+  by-texts matches job is (text ∷ []) have leaves = (text, cc, (_, due matches job (called (input_of matches)) (whole text) is, leaves))
   by-texts matches job is (text ∷ other ∷ more) have leaves = absurd (cc)
 
   relies : IsLeftBy p words files input left → Is
@@ -81,7 +81,7 @@ module _ {P J : Type 0} (p : Programs P J) (IsDue : ArgMatches → (name : Text)
   relies (IsLeftBy.Parsed matches are (IsLeftOf.Ran job is texts have leaves)) =
       let f = by-texts matches job is texts (sym (ap (map (λ name. bytes_among files input name)) (only matches)) ∙ have)
       (subst (λ l. IsLeft p.name left l (p.outcome matches (map called l) (map whole texts))) (only matches) leaves) in
-      Relies.Ran matches are f.0 f.1 f.2 f.3 f.4
+      Relies.Ran matches are f.0 f.1 f.2.0 f.2.1 f.2.2
   relies (IsLeftBy.Parsed matches are (IsLeftOf.Stopped job is before after name order texts have missing leaves)) =
       let f = only-before (input_of matches) name before after (sym (only matches) ∙ order) in
       Relies.Missing matches are (ap (bytes_among files input) f.1 ∙ missing)

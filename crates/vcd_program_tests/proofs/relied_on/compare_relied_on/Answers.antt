@@ -1,5 +1,5 @@
 use Rattle.vcd_program.specs.Memory.{end_of}
-use Rattle.vcd_program_tests.proofs.InMemoryLemmas.{if-ok, on-compare}
+use Rattle.vcd_program_tests.proofs.BeyondLemmas.{if-ok, on-compare}
 use Rattle.vcd_program_tests.proofs.relied_on.compare_relied_on.Goals as goal
 
 pub returns : goal.returns
