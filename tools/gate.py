@@ -1,11 +1,11 @@
 #!/usr/bin/env python3
-"""gate.py: what `make test` runs, in four parts:
+"""gate.py [--no-edits]: what `make test` runs, in four parts:
 
   tests     of pages, completions, scripts and package, and hostile runs with fixed seeds
   proofs    `rt ci`, in a copy of this tree without the must-fail edits: it proves each crate and
             its tests, and runs the tests and the programs
   refusals  hostile/refused.py, with the program of refused_calls that `rt ci` built
-  edits     tools/try_edits.py, over the libraries that `rt ci` built or kept
+  edits     tools/try_edits.py, over the libraries that `rt ci` built or kept (not with --no-edits)
 
 If the programs in the top directory are newer than their sources, the tests run first, with them.
 If there were none, or `rt ci` built others, the tests run with what it built.
@@ -60,7 +60,7 @@ def is_of(top, name):
 
 
 def main(words):
-    if words:
+    if words not in ([], ["--no-edits"]):
         print(__doc__, file=sys.stdout if words == ["--help"] else sys.stderr)
         return 0 if words == ["--help"] else 2
     prove.end_on_signals()
@@ -74,7 +74,8 @@ def main(words):
                 tests()
             part("refusals", call, "hostile/refused.py",
                  os.path.join(top, "crates/refused_calls/out/refused_calls"))
-            part("must-fail edits", try_edits.tried, top, try_edits.with_edits())
+            if not words:
+                part("must-fail edits", try_edits.tried, top, try_edits.with_edits())
         else:
             print("FAILED: rt ci, so no edits were tried" + ("" if is_fresh else ", and no tests"))
     passed, failed = map(sum, zip(*FOUND))
