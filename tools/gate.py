@@ -1,10 +1,9 @@
 #!/usr/bin/env python3
-"""gate.py [--no-edits]: what `make test` runs, in four parts:
+"""gate.py [--no-edits]: what `make test` runs, in three parts:
 
   tests     of pages, completions, scripts and package, and hostile runs with fixed seeds
   proofs    `rt ci`, in a copy of this tree without the must-fail edits: it proves each crate and
             its tests, and runs the tests and the programs
-  refusals  hostile/refused.py, with the program of refused_calls that `rt ci` built
   edits     tools/try_edits.py, over the libraries that `rt ci` built or kept (not with --no-edits)
 
 If the programs in the top directory are newer than their sources, the tests run first, with them.
@@ -37,9 +36,9 @@ def part(name, run, *given):
     return not failed
 
 
-def call(*words):
-    """Runs a command, and shows all that it prints if it fails, or else its last line."""
-    ran = subprocess.run(words, cwd=prove.TOP, stdin=subprocess.DEVNULL,
+def make(target):
+    """Makes a target, and shows all that it prints if it fails, or else its last line."""
+    ran = subprocess.run(["make", "-s", target], cwd=prove.TOP, stdin=subprocess.DEVNULL,
                          stdout=subprocess.PIPE, stderr=subprocess.STDOUT, encoding="utf-8",
                          errors="replace", check=False)
     said = ran.stdout.rstrip("\n")
@@ -49,7 +48,7 @@ def call(*words):
 
 def tests():
     for target in TESTS:
-        part("make " + target, call, "make", "-s", target)
+        part("make " + target, make, target)
 
 
 def is_of(top, name):
@@ -72,8 +71,6 @@ def main(words):
             if not is_fresh or not all(is_of(top, name) for name in prove.MAINS):
                 prove.take_programs(top)
                 tests()
-            part("refusals", call, "hostile/refused.py",
-                 os.path.join(top, "crates/refused_calls/out/refused_calls"))
             if not words:
                 part("must-fail edits", try_edits.tried, top, try_edits.with_edits())
         else:
