@@ -1,7 +1,6 @@
-//! The tests of `vcd_program` and of the programs beyond `vcdkit`: command lines over a host in
-//! memory, devices that fail, files of the machine that cannot be read, the buffer of an output,
-//! and a process in memory. `relied_on` has callers whose contracts need each clause of the
-//! programs', and `echo` another program.
+//! The tests of `vcd_program`: command lines over a host in memory, files of the machine that
+//! cannot be read, the buffer of an output, and a process in memory. `relied_on` has callers whose
+//! contracts need each clause of the three programs', and `echo` another program.
 #![tactic(auto)]
 
 #[cfg(test)]
@@ -12,11 +11,13 @@ mod echo;
 #[cfg(test)]
 mod echoes;
 #[cfg(test)]
-mod failing;
+mod flush;
 #[cfg(test)]
 mod machine;
 #[cfg(test)]
 mod process;
+#[cfg(test)]
+mod prompt;
 mod relied_on;
 
 pub use echo::{Echo, Line};

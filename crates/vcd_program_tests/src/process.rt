@@ -99,7 +99,7 @@ impl Process for InMemory {
 }
 
 // Appends these bytes.
-pub(super) fn append(bytes: &RefCell<Vec<u8>>, more: &[u8]) -> io::Result<()> {
+fn append(bytes: &RefCell<Vec<u8>>, more: &[u8]) -> io::Result<()> {
     let Ok(mut bytes) = bytes.try_borrow_mut() else {
         return Err(io::Error::from(ErrorKind::ResourceBusy));
     };
